@@ -1,0 +1,4 @@
+pub mod ShapeLemmas
+pub mod ChunkLemmas
+pub mod RecordLemmas
+pub mod ButterflyLemmas

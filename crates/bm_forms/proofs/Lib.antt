@@ -1,0 +1,12 @@
+pub mod MldLemmas
+pub mod BlockLemmas
+pub mod PermutationLemmas
+pub mod TransformLemmas
+pub mod PartialLemmas
+pub mod RoundLemmas
+pub mod RotationLemmas
+pub mod JobLemmas
+pub mod PassFormLemmas
+pub mod PlanLemmas
+pub mod RoundPlanLemmas
+pub mod PassLimitLemmas

@@ -1,0 +1,4 @@
+pub mod VectorLemmas
+pub mod RowLemmas
+pub mod StepperLemmas
+pub mod RotationLemmas

@@ -1,0 +1,4 @@
+pub mod BlockCopyLemmas
+pub mod CrashChoiceLemmas
+pub mod MemRackLemmas
+pub mod StoreLemmas

@@ -1,0 +1,12 @@
+pub mod BlockCopy
+pub mod CrashChoice
+pub mod FaultList
+pub mod MemRack
+pub mod MemSink
+pub mod MemSource
+pub mod SizeLemmas
+pub mod StopAhead
+pub mod Store
+pub mod SureRack
+pub mod ToldCall
+pub mod UntoldRack

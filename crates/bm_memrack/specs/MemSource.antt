@@ -1,0 +1,11 @@
+-- What is left of the sources in memory.
+use Rattle.std.specs.Prelude.{ℕ, List, drop}
+use Rattle.bm_memrack.specs.declared.mem_source.MemSource.{MemSource}
+use Rattle.bm_memrack.specs.declared.mem_source.SureSource.{SureSource}
+
+-- the bytes that were not given yet
+abbrev pub left_of : MemSource → List ℕ
+left_of s = drop s.unread.at s.unread.bytes.items
+
+abbrev pub sure_left : SureSource → List ℕ
+sure_left s = drop s.unread.at s.unread.bytes.items

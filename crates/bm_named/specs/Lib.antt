@@ -1,0 +1,3 @@
+pub mod GrayCode
+pub mod BitOrder
+pub mod RowList

@@ -1,0 +1,59 @@
+-- What a call leaves as it was, and what it counts.
+use Rattle.std.specs.Prelude.{◌≡◌, ℕ, ◌≤◌, false, IsTrue, IsFalse, Result, IsOk}
+use Rattle.bm_base.specs.declared.fault.Failed.{Failed}
+use Rattle.bm_base.specs.Contents.{RackUnit, unit_at}
+use Rattle.bm_base.specs.Count.{raised, Rose}
+use Rattle.bm_rack.specs.RackView.{RackView}
+
+-- what every call of a rack keeps
+pub record Keeps (old new : RackView) : Type 0 where
+  pub faults : old.faults ≤ new.faults
+  pub steady : IsTrue old.steady → IsTrue new.steady
+  pub stopping : new.stopping ≡ old.stopping
+  pub sure : IsTrue old.steady → IsFalse old.stopping → new.faults ≡ old.faults
+
+-- so many row calls, page calls and syncs were made
+pub record RaisesCounts (m p s : ℕ) (old new : RackView) : Type 0 where
+  pub moves : new.moves ≡ raised old.moves m
+  pub pages : new.pages ≡ raised old.pages p
+  pub syncs : new.syncs ≡ raised old.syncs s
+
+-- so many row calls on Ok and at most as many otherwise, and no other call
+pub record MakesMoves {T : Type 0} (rows : ℕ) (old new : RackView) (result : Result T Failed) : Type 0 where
+  pub done : IsOk result → RaisesCounts rows 0 0 old new
+  pub low : old.moves ≤ new.moves
+  pub high : new.moves ≤ raised old.moves rows
+  pub pages : new.pages ≡ old.pages
+  pub syncs : new.syncs ≡ old.syncs
+
+-- a failed call has its cause, and a steady rack that isn't stopping fails no call
+pub record HasCause (failed : Type 0) (old new : RackView) : Type 0 where
+  pub rose : failed → Rose old.faults new.faults
+  pub sure : IsTrue old.steady → IsFalse old.stopping → ¬ failed
+
+-- nothing but counts changed
+pub record SameState (old new : RackView) : Type 0 where
+  pub stands : new.stands ≡ old.stands
+  pub contents : new.contents ≡ old.contents
+  pub dirty : new.dirty ≡ old.dirty
+  pub attached : new.attached ≡ old.attached
+
+-- contents and dirtiness changed within P alone, and nothing else but counts
+pub record ChangesOnly (P : RackUnit → Type 0) (old new : RackView) : Type 0 where
+  pub stands : new.stands ≡ old.stands
+  pub attached : new.attached ≡ old.attached
+  pub contents : (u : RackUnit) → ¬ P u → unit_at new.contents u ≡ unit_at old.contents u
+  pub dirty : (u : RackUnit) → ¬ P u → new.dirty u ≡ old.dirty u
+
+-- contents changed within P alone, and no unit outside P became dirty
+pub record DirtiesOnly (P : RackUnit → Type 0) (old new : RackView) : Type 0 where
+  pub stands : new.stands ≡ old.stands
+  pub attached : new.attached ≡ old.attached
+  pub contents : (u : RackUnit) → ¬ P u → unit_at new.contents u ≡ unit_at old.contents u
+  pub dirty : (u : RackUnit) → ¬ P u → old.dirty u ≡ false → new.dirty u ≡ false
+
+-- what stays and why it fails, for a call that is made of several
+pub record RackCall (P : RackUnit → Type 0) (failed : Type 0) (old new : RackView) : Type 0 where
+  pub frame : DirtiesOnly P old new
+  pub keeps : Keeps old new
+  pub cause : HasCause failed old new

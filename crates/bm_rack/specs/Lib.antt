@@ -1,0 +1,8 @@
+pub mod RackView
+pub mod Calls
+pub mod Frames
+pub mod Image
+pub mod Sessions
+pub mod Source
+pub mod Sink
+pub mod Untold

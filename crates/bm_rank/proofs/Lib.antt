@@ -1,0 +1,12 @@
+pub mod SpanLemmas
+pub mod PivotLemmas
+pub mod ReductionLemmas
+pub mod EchelonLemmas
+pub mod CombinationLemmas
+pub mod RankLemmas
+pub mod RankBoundLemmas
+pub mod KernelLemmas
+pub mod DimensionLemmas
+pub mod DimensionLawLemmas
+pub mod RowCutLemmas
+pub mod RowSolutionLemmas

@@ -1,0 +1,6 @@
+pub mod Span
+pub mod Rank
+pub mod Echelon
+pub mod Kernel
+pub mod Inverse
+pub mod RowSolution

@@ -1,0 +1,4 @@
+pub mod SpotLemmas
+pub mod BlockLemmas
+pub mod UnitLemmas
+pub mod RowLemmas

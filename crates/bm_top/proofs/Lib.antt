@@ -1,0 +1,6 @@
+pub mod WordsLemmas
+pub mod TopCallLemmas
+pub mod RecordIoLemmas
+pub mod DumpLemmas
+pub mod LoadLemmas
+pub mod FlipLemmas

@@ -1,0 +1,73 @@
+-- The words of a flip, one by one.
+use Rattle.std.proofs.Common.{◌≡◌, ℕ, ◌<◌, List, [], ◌∷◌, length, get_or, Option, Some, None, String, Global, string_bytes, refl, sym, ap, ◌∙◌, arith}
+use Rattle.std.specs.Fmt.{decimal}
+use Rattle.std.proofs.lemmas.Fmt.{decimal_injective}
+use Rattle.std.proofs.lemmas.List.{get_or-map}
+use Rattle.std.specs.Option.{IfNone}
+use Rattle.bm_top.specs.declared.words.Flip.{Flip}
+use Rattle.bm_top.specs.Words.{IsFlip, texts_of, spelled}
+
+-- a fact holds where nothing was found, if it holds anyway
+pub if_none : {T : Type 0} (o : Option T) {P : Type 0} → P → IfNone o P
+if_none None p = p
+if_none (Some x) p = tt
+
+-- the word at a place has the bytes that are spelled there
+pub word_at : (words : List (String Global)) (f : Flip) (i : ℕ) (word : String Global)
+    → texts_of words ≡ spelled f → i < length words → word ≡ get_or words i word → string_bytes word ≡ get_or (spelled f) i []
+word_at words f i word same within is =
+    ap string_bytes is ∙ sym (get_or-map string_bytes words i word [] within) ∙ ap (λ ts. get_or ts i []) same
+
+-- seven words, each the word at its place
+pub record AreSeven (words : List (String Global)) (w0 w1 w2 w3 w4 w5 w6 : String Global) : Type 0 where
+  pub length : length words ≡ 7
+  pub at0 : w0 ≡ get_or words 0 w0
+  pub at1 : w1 ≡ get_or words 1 w1
+  pub at2 : w2 ≡ get_or words 2 w2
+  pub at3 : w3 ≡ get_or words 3 w3
+  pub at4 : w4 ≡ get_or words 4 w4
+  pub at5 : w5 ≡ get_or words 5 w5
+  pub at6 : w6 ≡ get_or words 6 w6
+
+-- the texts of seven words
+pub seven : (words : List (String Global)) (w0 w1 w2 w3 w4 w5 w6 : String Global) → AreSeven words w0 w1 w2 w3 w4 w5 w6
+    → texts_of words
+    ≡ string_bytes w0 ∷ string_bytes w1 ∷ string_bytes w2 ∷ string_bytes w3 ∷ string_bytes w4 ∷ string_bytes w5 ∷ string_bytes w6 ∷ []
+seven ([]) w0 w1 w2 w3 w4 w5 w6 h = absurd (omega (arith, h.length))
+seven (a ∷ []) w0 w1 w2 w3 w4 w5 w6 h = absurd (omega (arith, h.length))
+seven (a ∷ b ∷ []) w0 w1 w2 w3 w4 w5 w6 h = absurd (omega (arith, h.length))
+seven (a ∷ b ∷ c ∷ []) w0 w1 w2 w3 w4 w5 w6 h = absurd (omega (arith, h.length))
+seven (a ∷ b ∷ c ∷ d ∷ []) w0 w1 w2 w3 w4 w5 w6 h = absurd (omega (arith, h.length))
+seven (a ∷ b ∷ c ∷ d ∷ e ∷ []) w0 w1 w2 w3 w4 w5 w6 h = absurd (omega (arith, h.length))
+seven (a ∷ b ∷ c ∷ d ∷ e ∷ f ∷ []) w0 w1 w2 w3 w4 w5 w6 h = absurd (omega (arith, h.length))
+seven (a ∷ b ∷ c ∷ d ∷ e ∷ f ∷ g ∷ x ∷ xs) w0 w1 w2 w3 w4 w5 w6 h = absurd (omega (arith, h.length))
+seven (a ∷ b ∷ c ∷ d ∷ e ∷ f ∷ g ∷ []) w0 w1 w2 w3 w4 w5 w6 h = rw (h.at0, h.at1, h.at2, h.at3, h.at4, h.at5, h.at6) refl
+
+-- flips with the same numbers are the same
+same_flip : (f g : Flip) → f.n ≡ g.n → f.b ≡ g.b → f.d ≡ g.d → f.m ≡ g.m → f.width ≡ g.width → f.c ≡ g.c → f ≡ g
+same_flip f g n b d m width c =
+    let flip : ℕ → ℕ → ℕ → ℕ → ℕ → ℕ → Flip = λ n b d m width c. record { n = n; b = b; d = d; m = m; width = width; c = c } in
+    ap (λ x. flip x f.b f.d f.m f.width f.c) n
+    ∙ ap (λ x. flip g.n x f.d f.m f.width f.c) b
+    ∙ ap (λ x. flip g.n g.b x f.m f.width f.c) d
+    ∙ ap (λ x. flip g.n g.b g.d x f.width f.c) m
+    ∙ ap (λ x. flip g.n g.b g.d g.m x f.c) width
+    ∙ ap (λ x. flip g.n g.b g.d g.m g.width x) c
+
+-- the words spell one flip alone
+pub IsFlip-unique : (words : List (String Global)) (f g : Flip) → IsFlip words f → IsFlip words g → f ≡ g
+IsFlip-unique words f g x y =
+    let same : spelled f ≡ spelled g = sym x.words_are ∙ y.words_are in
+    let n : decimal f.n ≡ decimal g.n = cc in
+    let b : decimal f.b ≡ decimal g.b = cc in
+    let d : decimal f.d ≡ decimal g.d = cc in
+    let m : decimal f.m ≡ decimal g.m = cc in
+    let width : decimal f.width ≡ decimal g.width = cc in
+    let c : decimal f.c ≡ decimal g.c = cc in
+    same_flip f g
+    (decimal_injective _ _ (omega arith) (omega arith) n)
+    (decimal_injective _ _ (omega arith) (omega arith) b)
+    (decimal_injective _ _ (omega arith) (omega arith) d)
+    (decimal_injective _ _ (omega arith) (omega arith) m)
+    (decimal_injective _ _ (omega arith) (omega arith) width)
+    (decimal_injective _ _ x.within.c y.within.c c)

@@ -1,0 +1,3 @@
+//! One module for each command, by its word.
+
+pub mod flip;

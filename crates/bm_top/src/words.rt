@@ -1,0 +1,105 @@
+//! The words of a command.
+ghost use Rattle.std.specs.Prelude.{◌≡◌, ◌≢◌, ◌↔◌, ℕ, ◌^◌, ◌<◌, ◌≤◌, IfSome, IfNone, IsTrue, decimal};
+ghost use Rattle.bm_top.specs.Words.{IsFlip, IsNoCommand};
+
+use itoa::Buffer;
+
+/// The numbers of the command `flip n b d m width c`.
+#[derive(Clone, Copy, Debug, PartialEq, Eq)]
+pub struct Flip {
+    /// lg N: the bits of an address.
+    pub n: u8,
+    /// lg B: lg of the records of a block.
+    pub b: u8,
+    /// lg D: lg of the number of disks.
+    pub d: u8,
+    /// lg M: lg of the records of a memory load.
+    pub m: u8,
+    /// The bytes of a record.
+    pub width: u16,
+    /// What is XORed to each address.
+    pub c: u64,
+}
+
+/// The most bits of an address.
+const MOST_BITS: u8 = 52;
+
+/// The number that a word spells in its one way, where it is at most `most`.
+///
+/// That way is decimal digits with no sign and no leading zero, but for `0` itself.
+fn number_of(word: &str, most: u64) -> Option<u64>
+    ensures found { IfSome result (λ n. (n ≤ most) × (word.now ≡ decimal n)) }
+    ensures none { IfNone result ((n : ℕ) → n ≤ most → word.now ≢ decimal n) }
+{
+    match word.parse::<u64>() {
+        Ok(number) => {
+            if number <= most && Buffer::new().format(number) == word {
+                Some(number)
+            } else {
+                None
+            }
+        }
+        Err(_) => None,
+    }
+}
+
+/// The number that a word spells, where it fits a byte.
+fn byte_of(word: &str) -> Option<u8>
+    ensures found { IfSome result (λ n. (n < 2 ^ 8) × (word.now ≡ decimal n)) }
+    ensures none { IfNone result ((n : ℕ) → n < 2 ^ 8 → word.now ≢ decimal n) }
+{
+    match number_of(word, u64::from(u8::MAX)) {
+        Some(number) => Some(number as u8),
+        None => None,
+    }
+}
+
+/// The number that a word spells, where it fits a width.
+fn width_of(word: &str) -> Option<u16>
+    ensures found { IfSome result (λ n. (n < 2 ^ 16) × (word.now ≡ decimal n)) }
+    ensures none { IfNone result ((n : ℕ) → n < 2 ^ 16 → word.now ≢ decimal n) }
+{
+    match number_of(word, u64::from(u16::MAX)) {
+        Some(number) => Some(number as u16),
+        None => None,
+    }
+}
+
+/// Whether c is an address of n bits, where a shape may have so many.
+fn is_address(c: u64, n: u8) -> bool
+    ensures { IsTrue result ↔ (n ≤ 52 → c < 2 ^ n) }
+{
+    n > MOST_BITS || c < 1u64 << n
+}
+
+/// The flip that the words spell, or nothing where they are no command.
+pub fn flip_of(words: &[String]) -> Option<Flip>
+    ensures found { IfSome result (λ f. IsFlip words.now f) }
+    ensures none { IfNone result (IsNoCommand words.now) }
+{
+    match words {
+        [name, n, b, d, m, width, c] => {
+            if name.as_str() != "flip" {
+                return None;
+            }
+            let n = byte_of(n.as_str())?;
+            let b = byte_of(b.as_str())?;
+            let d = byte_of(d.as_str())?;
+            let m = byte_of(m.as_str())?;
+            let width = width_of(width.as_str())?;
+            let c = number_of(c.as_str(), u64::MAX)?;
+            if !is_address(c, n) {
+                return None;
+            }
+            Some(Flip {
+                n,
+                b,
+                d,
+                m,
+                width,
+                c,
+            })
+        }
+        _ => None,
+    }
+}

@@ -1,0 +1,11 @@
+//! Worked rows of the calls and commands, over devices in memory.
+#![tactic(auto)]
+
+#[cfg(test)]
+mod algebra_rows;
+#[cfg(test)]
+mod calling;
+#[cfg(test)]
+mod flip_faults;
+#[cfg(test)]
+mod flip_rows;
