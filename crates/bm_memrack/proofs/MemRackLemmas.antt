@@ -108,6 +108,7 @@ store_restarted {f} {a} {b} {c} {y} {z} store s t attached pick is few_moves few
         sizes = store_sizes (Some t) dims (ap Some d ∙ stands);
         clean = crash_keeps s t pick d pages blocks;
       };
+      clean_units = λ _. crash_keeps s t pick d pages blocks;
       clean = clean;
       counts = record {
         moves = sym (raised-zero a few_moves);

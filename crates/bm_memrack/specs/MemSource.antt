@@ -7,5 +7,6 @@ use Rattle.bm_memrack.specs.declared.mem_source.SureSource.{SureSource}
 abbrev pub left_of : MemSource → List ℕ
 left_of s = drop s.unread.at s.unread.bytes.items
 
+-- the same of a source that never fails
 abbrev pub sure_left : SureSource → List ℕ
 sure_left s = drop s.unread.at s.unread.bytes.items

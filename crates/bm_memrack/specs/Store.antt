@@ -50,10 +50,12 @@ stands_at (Some s) = Some s.dims
 abbrev pub no_contents : Contents
 no_contents = record { disks = []; pages = [] }
 
+-- what is held, where there is a store
 abbrev pub contents_at : Option Store → Contents
 contents_at None = no_contents
 contents_at (Some s) = contents_of s
 
+-- which units are dirty, where there is a store
 abbrev pub dirty_at : Option Store → RackUnit → Bool
 dirty_at None = λ u. false
 dirty_at (Some s) = dirty_of s

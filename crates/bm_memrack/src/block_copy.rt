@@ -68,7 +68,7 @@ pub fn clear_blocks(dims: &Dims, places: &[Option<u64>], bytes: &mut [u8])
     }
 }
 
-/// Writes the first bytes of the blocks of a row, and dirty_blocks the blocks.
+/// Writes the first bytes of the blocks of a row, and makes the blocks dirty.
 pub fn write_blocks(
     dims: &Dims,
     flat: &mut [u8],

@@ -9,8 +9,11 @@ ghost use Rattle.bm_memrack.specs.FaultList.{is_listed};
 /// last value.
 #[derive(Drop)]
 pub struct FaultList {
+    /// The numbers of the calls that fail, counted from 1.
     pub numbers: Vec<u64>,
+    /// The calls made so far.
     pub calls: u64,
+    /// The calls that failed.
     pub faults: u64,
     ghost calls_fit: { calls < 2 ^ 64 },
     ghost faults_fit: { faults < 2 ^ 64 },

@@ -9,6 +9,7 @@ mod mem_sink;
 mod mem_source;
 mod store;
 mod sure_rack;
+mod told_call;
 mod untold_rack;
 
 pub use mem_rack::MemRack;

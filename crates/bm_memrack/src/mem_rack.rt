@@ -1,11 +1,10 @@
 //! A rack in memory that fails as it was told, and can be stopped and started again.
-ghost use Rattle.std.specs.Prelude.{◌≡◌, ℕ, ◌+◌, ◌^◌, ◌<◌, ◌≤◌, ◌||◌, IsTrue, IsFalse, is_some, is_err, length, if◌then◌else◌, ◌/◌, ◌*◌, Bool};
-ghost use Rattle.bm_base.specs.Count.{raised, Rose};
-ghost use Rattle.bm_memrack.specs.FaultList.{is_empty, is_listed};
-ghost use Rattle.bm_memrack.specs.StopAhead.{is_stopped, next_stop};
+ghost use Rattle.std.specs.Prelude.{◌≡◌, ◌^◌, ◌<◌, is_some};
+ghost use Rattle.bm_memrack.specs.FaultList.{is_empty};
 
 use crate::fault_list::FaultList;
 use crate::store::{Store, make_store};
+use crate::told_call::{fails, outcome, taken_len};
 use bm_base::{Dims, Failed, PAGE_BYTES};
 use bm_rack::{AttachError, CreateError, Found, Rack, StopRack};
 use std::alloc::Global;
@@ -28,32 +27,6 @@ pub struct MemRack {
     ghost moves_fit: { moves < 2 ^ 64 },
     ghost pages_fit: { pages < 2 ^ 64 },
     ghost syncs_fit: { syncs < 2 ^ 64 },
-}
-
-// Counts a device call, and says whether it fails.
-fn fails(list: &mut FaultList, stop: &mut Option<u64>) -> bool
-    ensures answer { result
-        ≡ (is_stopped stop.old || is_listed list.old.numbers.items list.new.calls) }
-    ensures faults { list.new.faults ≡ raised list.old.faults (if result then 1 else 0) }
-    ensures calls { list.new.calls ≡ raised list.old.calls 1 }
-    ensures numbers { list.new.numbers ≡ list.old.numbers }
-    ensures stop { stop.new ≡ next_stop stop.old }
-    ensures stopping { is_some stop.new ≡ is_some stop.old }
-    ensures rose { IsTrue result → Rose list.old.faults list.new.faults }
-    ensures counted { list.old.faults ≤ list.new.faults }
-    ensures quiet { IsFalse result → list.new.faults ≡ list.old.faults }
-    ensures sure { IsTrue (is_empty list.old.numbers.items) → IsFalse (is_some stop.old)
-        → IsFalse result }
-{
-    let stopped = match stop {
-        Some(left) => {
-            let reached = *left == 0;
-            *left = left.saturating_sub(1);
-            reached
-        }
-        None => false,
-    };
-    list.fails(stopped)
 }
 
 impl MemRack {
@@ -106,7 +79,7 @@ impl Rack for MemRack {
         ensures keeps { Keeps (view_of self.old) (view_of self.new) }
         ensures cause { HasCause (IsErrOf result AttachError.Failed)
             (view_of self.old) (view_of self.new) }
-        ensures told { IsDeviceCall (IsErrOf result AttachError.Failed) self.old self.new }
+        ensures told { IsDeviceCall (IsErr result) self.old self.new }
     {
         self.attached = false;
         if fails(&mut self.list, &mut self.stop) {
@@ -300,18 +273,4 @@ impl StopRack for MemRack {
             store.crash(pick);
         }
     }
-}
-
-// How many bytes of a unit a write sets: all of them, or the first half where it fails.
-fn taken_len(whole: usize, fails: bool) -> usize
-    ensures { result ≡ (if fails then whole / 2 else whole) }
-{
-    if fails { whole / 2 } else { whole }
-}
-
-// What a write answers.
-fn outcome(fails: bool) -> Result<(), Failed>
-    ensures { is_err result ≡ fails }
-{
-    if fails { Err(Failed) } else { Ok(()) }
 }

@@ -16,10 +16,15 @@ const SLATE_BYTES: usize = 264192;
 /// A rack's blocks in one list, disk after disk, its slate in another, and which of them are dirty.
 #[derive(Drop)]
 pub struct Store {
+    /// The sizes.
     pub dims: Dims,
+    /// The bytes of the blocks, disk after disk.
     pub flat: Vec<u8>,
+    /// The bytes of the pages.
     pub slate: Vec<u8>,
+    /// Which blocks are dirty, in the same order.
     pub dirty_blocks: Vec<bool>,
+    /// Which pages are dirty.
     pub dirty_pages: Vec<bool>,
     ghost count: { dims.disks * dims.places < 2 ^ 63 },
     ghost flat_size: { length flat.items ≡ dims.disks * dims.places * dims.block },

@@ -39,6 +39,9 @@ impl SureRack {
 }
 
 impl Rack for SureRack {
+    ghost use Rattle.std.specs.Prelude.{true, IsErrOf, IsOk};
+    ghost use Rattle.bm_rack.specs.Frames.{Keeps, RaisesCounts, HasCause};
+    ghost use Rattle.bm_rack.specs.Calls.{AttachDone};
     ghost use Rattle.bm_memrack.specs.SureRack.{view_of};
     ghost use Rattle.bm_memrack.specs.SizeLemmas.{memory_well_formed};
     ghost use Rattle.std.proofs.Common.{rules};
@@ -52,7 +55,14 @@ impl Rack for SureRack {
     ghost consistent = { λ r. memory_well_formed r.store r.attached 0 r.moves r.pages r.syncs
         true false (Prim.search rules) r.moves_fit r.pages_fit r.syncs_fit };
 
-    fn attach(&mut self, dims: &Dims) -> Result<Found, AttachError> {
+    fn attach(&mut self, dims: &Dims) -> Result<Found, AttachError>
+        ensures attached { AttachDone true dims.now (view_of self.old) result (view_of self.new) }
+        ensures counts { RaisesCounts 0 0 0 (view_of self.old) (view_of self.new) }
+        ensures keeps { Keeps (view_of self.old) (view_of self.new) }
+        ensures cause { HasCause (IsErrOf result AttachError.Failed)
+            (view_of self.old) (view_of self.new) }
+        ensures sure { IsOk result }
+    {
         let found = match &self.store {
             None => Found::Absent,
             Some(store) => {

@@ -3,7 +3,6 @@ use Rattle.std.specs.Prelude.{◌≡◌, ◌*◌, ◌<◌, false, Some}
 use Rattle.bm_base.specs.declared.dims.Dims.{Dims}
 use Rattle.bm_base.specs.Contents.{Contents, RackUnit, block_unit, page_unit, unit_at, HasSizes}
 use Rattle.bm_rack.specs.RackView.{RackView}
-use Rattle.bm_rack.specs.Frames.{DirtiesOnly}
 
 -- An image of a rack: contents of the same sizes that agree with it in every unit that is not dirty.
 pub record IsImage (dims : Dims) (v : RackView) (image : Contents) : Type 0 where
@@ -19,6 +18,7 @@ abbrev pub IsInputUnit : Dims → RackUnit → Type 0
 IsInputUnit dims (block_unit disk place) = 3 * place < dims.places
 IsInputUnit dims (page_unit page) = ⊥
 
--- The same input: its blocks are as before, and those that are dirty were dirty before.
-abbrev pub SameInput : Dims → RackView → RackView → Type 0
-SameInput dims old new = DirtiesOnly (λ u. ¬ IsInputUnit dims u) old new
+-- The same input: its blocks are as before, and each that is dirty was dirty before.
+pub record SameInput (dims : Dims) (old new : RackView) : Type 0 where
+  pub contents : (u : RackUnit) → IsInputUnit dims u → unit_at new.contents u ≡ unit_at old.contents u
+  pub dirty : (u : RackUnit) → IsInputUnit dims u → old.dirty u ≡ false → new.dirty u ≡ false
