@@ -2,7 +2,7 @@
 use Rattle.std.specs.Prelude.{ℕ, ◌≡◌, ◌/◌, ◌^◌, ◌<◌}
 use Rattle.bm_gf2.specs.declared.matrix.Matrix.{Matrix}
 use Rattle.bm_gf2.specs.Matrix.{column, IsNonsingular}
-use Rattle.bm_rank.specs.Kernel.{IsLeastKernel}
+use Rattle.bm_gf2.specs.Kernel.{IsLeastKernel}
 use Rattle.bm_rank.specs.RowSolution.{IsCovered, IsLeastOutside}
 use Rattle.bm_forms.specs.declared.mld_form.FormError.{FormError}
 use Rattle.bm_forms.specs.declared.mld_form.FormError.TheVariants.{Singular, NotMld}

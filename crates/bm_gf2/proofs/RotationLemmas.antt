@@ -2,7 +2,7 @@
 use Rattle.std.proofs.Common.{◌≡◌, ◌≢◌, ℕ, zero, suc, ◌+◌, ◌-◌, ◌*◌, ◌%◌, ◌^◌, ◌<◌, ◌≤◌, refl, sym, ap, ◌∙◌, arith, ⊎_elim}
 use Rattle.std.specs.Int.{bit_at}
 use Rattle.std.specs.Int.Bits.{xor_zero_l, xor_zero_r}
-use Rattle.std.proofs.Math.Nat.{mod-lt, mod-eq_of_lt, add-mod_left}
+use Rattle.std.proofs.Math.Nat.{mod-lt, mod-eq_of_lt, add-mod_left, add-mod_right}
 use Rattle.std.proofs.lemmas.Nat.Bits.{bit_at-pow_same, bit_at-pow_other}
 use Rattle.std.proofs.lemmas.Bool.{cases_lt}
 use Rattle.bm_gf2.specs.Vector.{xor_sum}
@@ -77,6 +77,19 @@ turned_apart n by i j few inside below apart = λ same. apart (
     let e : i ≡ j - by = same ∙ turned_above n by j few below p in
     (let f : j ≡ i + by = omega arith in f) ∙ sym (source_below n by i (omega arith)))
     (cases_lt j by))
+
+-- a rotation by n is one by 0
+pub rotated_column : (n by j : ℕ) → by ≤ n → j < n → (j + n - by % n) % n ≡ (j + n - by) % n
+rotated_column n by j few below =
+    ⊎_elim
+    (λ (p : by < n). ap (λ (c : ℕ). (j + n - c) % n) (mod-eq_of_lt p))
+    (λ (p : n ≤ by).
+    let whole : by ≡ n = omega arith in
+    let none : by % n ≡ 0 = ap (λ (c : ℕ). c % n) (let e : by ≡ 0 + n = omega arith in e) ∙ add-mod_right 0 n
+    ∙ mod-eq_of_lt (let e : 0 < n = omega arith in e) in
+    ap (λ (c : ℕ). (j + n - c) % n) none ∙ ap (λ (c : ℕ). c % n) (let e : j + n - 0 ≡ j + n = omega arith in e) ∙ add-mod_right j n
+    ∙ ap (λ (c : ℕ). c % n) (let e : j ≡ j + n - by = omega arith in e))
+    (cases_lt by n)
 
 -- a rotation, bit by bit
 pub rotation_bits : (w : ℕ → ℕ) (n by : ℕ) → by ≤ n → ((j : ℕ) → j < n → w j ≡ 2 ^ ((j + n - by) % n))

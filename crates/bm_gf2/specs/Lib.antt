@@ -4,3 +4,4 @@ pub mod Affine
 pub mod RowMap
 pub mod Spread
 pub mod Stepper
+pub mod Kernel

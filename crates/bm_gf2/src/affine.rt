@@ -7,7 +7,9 @@ use crate::matrix::Matrix;
 /// An affine map: x goes to `a x XOR c`, for x and c below `2 ^ n`.
 #[derive(Clone, Copy, Debug, PartialEq, Eq)]
 pub struct Affine {
+    /// The matrix.
     pub a: Matrix,
+    /// The constant, below `2 ^ n`.
     pub c: u64,
     ghost below: { c < 2 ^ a.n },
 }

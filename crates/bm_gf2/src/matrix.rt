@@ -11,7 +11,9 @@ use crate::vector::{MOST_COLUMNS, no_columns, sum_of_columns};
 /// Bit i of column j is the entry at row i, column j. Columns from n on are 0.
 #[derive(Clone, Copy, Debug, PartialEq, Eq)]
 pub struct Matrix {
+    /// How many rows and columns, 1 to 52.
     pub n: u8,
+    /// The columns, 0 from number n on.
     pub cols: [u64; MOST_COLUMNS],
     ghost some: { 1 ≤ n },
     ghost few: { n ≤ 52 },
@@ -110,8 +112,19 @@ impl Matrix {
     }
 
     /// The rotation of the bits: target bit i is source bit `(i + by) mod n`.
-    #[tactic(auto, using(crate::proofs::VectorLemmas::unit_below))]
     pub fn rotation(n: u8, by: u8) -> Matrix
+        requires some { 1 ≤ n }
+        requires few { n ≤ 52 }
+        ensures size { result.n ≡ n }
+        ensures columns { by ≤ n → (j : ℕ) → j < n → column result j ≡ 2 ^ ((j + n - by) % n) }
+        ensures bits { (x i : ℕ) → i < n → bit_at (image result x) i ≡ bit_at x ((i + by) % n) }
+    {
+        Matrix::turn(n, by % n)
+    }
+
+    // The rotation by no more than n.
+    #[tactic(auto, using(crate::proofs::VectorLemmas::unit_below))]
+    fn turn(n: u8, by: u8) -> Matrix
         requires some { 1 ≤ n }
         requires few { n ≤ 52 }
         requires by { by ≤ n }

@@ -9,7 +9,9 @@ use crate::vector::{MOST_COLUMNS, sum_of_columns};
 /// Bit i of column j is the entry at row i, column j. Columns from `count` on are 0.
 #[derive(Clone, Copy, Debug, PartialEq, Eq)]
 pub struct RowMap {
+    /// How many columns.
     pub count: u8,
+    /// The columns, 0 from number `count` on.
     pub cols: [u64; MOST_COLUMNS],
     ghost few: { count ≤ 52 },
     ghost rest: { (j : ℕ) → count ≤ j → slice_index cols j ≡ 0 },

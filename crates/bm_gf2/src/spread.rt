@@ -7,7 +7,9 @@ use crate::row_map::RowMap;
 /// A row map and a constant: t goes to `plus XOR map(t)`.
 #[derive(Clone, Copy, Debug, PartialEq, Eq)]
 pub struct Spread {
+    /// The map.
     pub map: RowMap,
+    /// The constant.
     pub plus: u64,
 }
 

@@ -6,19 +6,6 @@ use Rattle.std.proofs.lemmas.Nat.{pow-add, mul-add-lt}
 use Rattle.std.proofs.Math.Nat.{mod-eq_of_lt, add-mod_right}
 use Rattle.std.proofs.lemmas.Nat.Bits.{bit_at_cat_low, bit_at_cat_high, same_from_bits_below}
 
--- a rotation by n is one by 0
-pub rotated_column : (n by j : ℕ) → by ≤ n → j < n → (j + n - by % n) % n ≡ (j + n - by) % n
-rotated_column n by j few below =
-    ⊎_elim
-    (λ (p : by < n). ap (λ (c : ℕ). (j + n - c) % n) (mod-eq_of_lt p))
-    (λ (p : n ≤ by).
-    let whole : by ≡ n = omega arith in
-    let none : by % n ≡ 0 = ap (λ (c : ℕ). c % n) (let e : by ≡ 0 + n = omega arith in e) ∙ add-mod_right 0 n
-    ∙ mod-eq_of_lt (let e : 0 < n = omega arith in e) in
-    ap (λ (c : ℕ). (j + n - c) % n) none ∙ ap (λ (c : ℕ). c % n) (let e : j + n - 0 ≡ j + n = omega arith in e) ∙ add-mod_right j n
-    ∙ ap (λ (c : ℕ). c % n) (let e : j ≡ j + n - by = omega arith in e))
-    (cases_lt by n)
-
 -- each source bit is a target bit
 pub rotation_source : (n by s : ℕ) → by < n → s < n → (i : ℕ) × (i < n) × ((i + by) % n ≡ s)
 rotation_source n by s few inside =

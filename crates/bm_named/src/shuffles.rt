@@ -20,7 +20,7 @@ pub fn rotation(n: u8, by: u8) -> Affine
     ensures nonsingular { IsNonsingular result.a }
 {
     Affine {
-        a: Matrix::rotation(n, by % n),
+        a: Matrix::rotation(n, by),
         c: 0,
     }
 }

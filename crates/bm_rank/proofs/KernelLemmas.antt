@@ -10,7 +10,7 @@ use Rattle.std.proofs.lemmas.Bool.{cases_lt, cases_eq}
 use Rattle.bm_gf2.specs.Vector.{xor_sum}
 use Rattle.bm_gf2.proofs.VectorLemmas.{xor_pow_above, xor_sum-xor, xor_sum-pow, xor_sum-above, xor_sum-more, xor_sum-xor_sum, xor_sum-ext, xor_sum-units, xor_sum-lt, bit_cases, xor_same, eq_of_xor-zero}
 use Rattle.bm_gf2.specs.declared.matrix.Matrix.{Matrix}
-use Rattle.bm_rank.specs.Kernel.{IsLeastKernel}
+use Rattle.bm_gf2.specs.Kernel.{IsLeastKernel}
 use Rattle.bm_rank.specs.Span.{in_span}
 use Rattle.bm_rank.specs.Span.{sum_of}
 use Rattle.bm_rank.proofs.SpanLemmas.{false_from, in_span-sum}

@@ -10,7 +10,7 @@ use Rattle.bm_gf2.specs.declared.matrix.Matrix.{Matrix}
 use Rattle.bm_gf2.specs.Matrix.{image, column, IsNonsingular}
 use Rattle.bm_gf2.proofs.VectorLemmas.{xor_sum-above, xor_sum-ext, xor_sum-shr, xor_sum-mod, xor_sum-xor, xor_sum-split, xor_sum-xor_sum, xor_sum-zero, xor_sum-bits, xor_sum-lt, eq_of_xor-zero, xor_same}
 use Rattle.bm_rank.specs.RowSolution.{IsCovered, IsLeastOutside, IsLeastSplit, IsCut, middle_rows, top_rows}
-use Rattle.bm_rank.specs.Kernel.{IsLeastKernel}
+use Rattle.bm_gf2.specs.Kernel.{IsLeastKernel}
 use Rattle.bm_rank.specs.Inverse.{IsInverse}
 
 -- the cut columns give those rows of the image

@@ -1,6 +1,5 @@
 pub mod Span
 pub mod Rank
 pub mod Echelon
-pub mod Kernel
 pub mod Inverse
 pub mod RowSolution

@@ -2,7 +2,7 @@
 
 ghost use Rattle.std.specs.Prelude.{◌≡◌, ◌-◌, ◌<◌, OnOk, MatchResult, take};
 ghost use Rattle.bm_gf2.specs.Matrix.{IsNonsingular};
-ghost use Rattle.bm_rank.specs.Kernel.{IsLeastKernel};
+ghost use Rattle.bm_gf2.specs.Kernel.{IsLeastKernel};
 ghost use Rattle.bm_rank.specs.Inverse.{IsInverse};
 
 use crate::echelon::Echelon;
@@ -12,6 +12,7 @@ use bm_gf2::{Matrix, no_columns};
 /// The matrix is singular: it sends x to 0, and x is the least such vector but 0.
 #[derive(Clone, Copy, Debug, PartialEq, Eq)]
 pub struct Singular {
+    /// The least vector but 0 that is sent to 0.
     pub x: u64,
 }
 

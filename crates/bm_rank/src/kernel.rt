@@ -2,7 +2,7 @@
 
 ghost use Rattle.std.specs.Prelude.{◌≡◌, ◌-◌, ◌^◌, ◌<◌, IfOk, OnOk, IfErr, MatchOption, take};
 ghost use Rattle.bm_gf2.specs.Matrix.{IsNonsingular};
-ghost use Rattle.bm_rank.specs.Kernel.{IsLeastKernel};
+ghost use Rattle.bm_gf2.specs.Kernel.{IsLeastKernel};
 
 use crate::echelon::Echelon;
 use bm_gf2::Matrix;
@@ -17,7 +17,7 @@ pub fn kernel_least(a: &Matrix) -> Option<u64>
     }
 }
 
-// All columns in order, or the least vector that shows that they aren't independent.
+/// All columns in order, or the least vector that shows that they aren't independent.
 pub fn column_basis(a: &Matrix) -> Result<Echelon, u64>
     ensures columns { IfOk result (λ e. (e.n ≡ a.now.n) × (e.kept ≡ take a.now.n a.now.cols)) }
     ensures nonsingular { OnOk result (IsNonsingular a.now) }

@@ -14,6 +14,7 @@ use bm_gf2::{MOST_COLUMNS, Matrix, RowMap, no_columns, sum_of_columns};
 /// There is no map from L to H: x below `2 ^ m` has Lx = 0 and Hx not 0, and is the least such.
 #[derive(Clone, Copy, Debug, PartialEq, Eq)]
 pub struct Outside {
+    /// The least vector that shows it.
     pub x: u64,
 }
 

@@ -1,16 +1,13 @@
-use Rattle.std.proofs.Common.{ℕ, ◌+◌, ◌-◌, ◌%◌, ◌<◌, ◌^◌, subst, sym, arith}
-use Rattle.std.proofs.lemmas.Nat.{pow_below}
-use Rattle.std.proofs.Math.Nat.{mod-lt}
-use Rattle.std.proofs.Common.{slice_index}
-use Rattle.bm_gf2.proofs.RotationLemmas.{rotation_bits}
+use Rattle.std.proofs.Common.{ℕ, ◌^◌, ap, ◌∙◌}
+use Rattle.std.specs.Int.{bit_at}
+use Rattle.std.proofs.Math.Nat.{add-mod-mod}
+use Rattle.bm_gf2.proofs.RotationLemmas.{rotated_column}
 use Rattle.bm_gf2.proofs.matrix.Matrix.rotation.Goals as goal
 
-pub invariant_of-result-clause-below : goal.invariant_of-result-clause-below
-invariant_of-result-clause-below c = λ j l.
-    let m : (j + c.args.n - c.args.by) % c.args.n < c.args.n = mod-lt (j + c.args.n - c.args.by) (omega arith) in
-    subst (λ (x : ℕ). x < 2 ^ c.args.n) (sym (c.loop-j.invariant.1 j (omega arith)))
-    (pow_below ((j + c.args.n - c.args.by) % c.args.n) c.args.n m)
-
 pub returns-clause-bits : goal.returns-clause-bits
-returns-clause-bits c = rotation_bits (slice_index c.loop-j.cols) c.args.n c.args.by c.requires.by
-    (λ j l. c.loop-j.invariant.1 j (omega arith))
+returns-clause-bits c = λ x i inside.
+    c.turn.ensures.bits x i inside ∙ ap (bit_at x) (add-mod-mod i c.args.by c.args.n)
+
+pub returns-clause-columns : goal.returns-clause-columns
+returns-clause-columns c = λ few j inside.
+    c.turn.ensures.columns j inside ∙ ap (λ (k : ℕ). 2 ^ k) (rotated_column c.args.n c.args.by j few inside)
