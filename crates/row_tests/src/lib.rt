@@ -4,8 +4,12 @@
 #[cfg(test)]
 mod algebra_rows;
 #[cfg(test)]
+mod areas;
+#[cfg(test)]
 mod calling;
 #[cfg(test)]
 mod flip_faults;
 #[cfg(test)]
 mod flip_rows;
+#[cfg(test)]
+mod pass_rows;

@@ -1,0 +1,5 @@
+pub mod Bufs
+pub mod Lends
+pub mod Places
+pub mod Placing
+pub mod Runs

@@ -1,0 +1,40 @@
+//! Butterflies on records in order of address.
+
+ghost use Rattle.std.specs.Prelude.{◌≡◌, ℕ, ◌+◌, ◌*◌, ◌/◌, ◌%◌, ◌^◌, ◌<◌, ◌≤◌, length};
+ghost use Rattle.bm_base.specs.Records.{SameRecords};
+ghost use Rattle.bm_base.specs.Butterfly.{butterfly, butterflies};
+ghost use Rattle.bm_butter.specs.Records.{record_in_order};
+
+use crate::on_bit::{Halves, butterfly_on};
+use crate::pair::RECORD_BYTES;
+
+// The butterfly on one bit of the addresses.
+fn butterfly_in_order(buf: &mut [u8], i: u8)
+    requires whole { length buf.old % (8 * 2 ^ (i + 1)) ≡ 0 }
+    requires some { 0 < length buf.old }
+    ensures size { length buf.new ≡ length buf.old }
+    ensures records { SameRecords (length buf.old / 8) (record_in_order buf.new)
+        (butterfly i (record_in_order buf.old)) }
+{
+    let count = buf.len() / RECORD_BYTES;
+    butterfly_on(buf, &Halves::of(i, 0), 0, count >> (i + 1));
+}
+
+/// The butterflies on address bits 0 to low - 1, in ascending order, of the records in a buffer.
+///
+/// A record is a little-endian u64. The butterfly on a bit takes each pair (u, v) at the addresses
+/// without and with the bit to (u + v, u - v) modulo 2^64. Over all bits they are the fast
+/// Walsh-Hadamard transform (Shanks).
+pub fn butterflies(buf: &mut [u8], low: u8)
+    requires whole { length buf.old % (8 * 2 ^ low) ≡ 0 }
+    ensures size { length buf.new ≡ length buf.old }
+    ensures records { SameRecords (length buf.old / 8) (record_in_order buf.new)
+        (butterflies low (record_in_order buf.old)) }
+{
+    if buf.is_empty() {
+        return;
+    }
+    for i in 0..low {
+        butterfly_in_order(buf, i);
+    }
+}

@@ -1,0 +1,11 @@
+//! The butterflies of the Walsh-Hadamard transform, on records in memory.
+#![tactic(auto)]
+
+mod at_places;
+mod in_place;
+mod lone_bit;
+mod on_bit;
+mod pair;
+
+pub use at_places::butterflies_at;
+pub use in_place::butterflies;

@@ -1,0 +1,46 @@
+//! One pair of a butterfly.
+
+ghost use Rattle.std.specs.Prelude.{◌≡◌, ◌≢◌, ℕ, ◌+◌, ◌*◌, ◌<◌, ◌≤◌, length};
+ghost use Rattle.bm_base.specs.Butterfly.{number_in, record_of};
+ghost use Rattle.bm_butter.specs.Records.{record_in_order};
+ghost use Rattle.bm_butter.specs.Pairs.{IsPaired};
+
+use byteorder::{ByteOrder, LittleEndian};
+
+/// The bytes of a record.
+pub const RECORD_BYTES: usize = 8;
+
+// The number in record i.
+fn number_at(buf: &[u8], i: usize) -> u64
+    requires { (i + 1) * 8 ≤ length buf.now }
+    ensures { result ≡ number_in (record_in_order buf.now i) }
+{
+    let at = i * RECORD_BYTES;
+    LittleEndian::read_u64(&buf[at..at + RECORD_BYTES])
+}
+
+// Writes a number into record i.
+fn set_number(buf: &mut [u8], i: usize, number: u64)
+    requires { (i + 1) * 8 ≤ length buf.old }
+    ensures written { record_in_order buf.new i ≡ record_of number }
+    ensures others { (k : ℕ) → k ≢ i → record_in_order buf.new k ≡ record_in_order buf.old k }
+    ensures size { length buf.new ≡ length buf.old }
+{
+    let at = i * RECORD_BYTES;
+    LittleEndian::write_u64(&mut buf[at..at + RECORD_BYTES], number);
+}
+
+/// Turns u in record i and v in record j into u + v and u - v, modulo 2 ^ 64.
+pub fn pair(buf: &mut [u8], i: usize, j: usize)
+    requires apart { i ≢ j }
+    requires i { (i + 1) * 8 ≤ length buf.old }
+    requires j { (j + 1) * 8 ≤ length buf.old }
+    ensures paired { IsPaired buf.old buf.new i j }
+    ensures others { (k : ℕ) → k ≢ i → k ≢ j → record_in_order buf.new k ≡ record_in_order buf.old k }
+    ensures size { length buf.new ≡ length buf.old }
+{
+    let u = number_at(buf, i);
+    let v = number_at(buf, j);
+    set_number(buf, i, u.wrapping_add(v));
+    set_number(buf, j, u.wrapping_sub(v));
+}

@@ -1,0 +1,4 @@
+pub mod MoveLemmas
+pub mod PlaceLemmas
+pub mod LoadLemmas
+pub mod PassLemmas

@@ -1,0 +1,76 @@
+use Rattle.std.proofs.Common.{rules, ◌≡◌, ◌+◌, ◌-◌, ◌*◌, ◌^◌, ◌<◌, refl, subst, ◌∙◌, ap, arith}
+use Rattle.bm_base.specs.Shape.{stripes, load_stripes}
+use Rattle.bm_rack.proofs.FrameLemmas.{Keeps-trans, ChangesOnly-trans, ChangesOnly-wider}
+use Rattle.bm_stripe.specs.Units.{IsAreaUnit}
+use Rattle.bm_pass.specs.LoadMove.{IsTargetUnit}
+use Rattle.bm_pass.proofs.MoveLemmas.{MadeMoves, MadeMoves-none, MadeMoves-ok, MakesMoves-then, MakesMoves-failed, MakesMoves-all}
+use Rattle.bm_pass.proofs.PassLemmas.{IsTargetUnit-area, source_stays, LoadsMoved-more, LoadsMoved-none, LoadsMoved-all, rows_more, rows_within, rows_of_pass}
+use Rattle.bm_pass.proofs.whole_pass.run_pass.Goals as goal
+
+pub loop-load-init : goal.loop-load-init
+loop-load-init g c =
+    let now = g.R.Rack.view c.args.rack.now in
+    let formed = g.met.R.Rack.consistent c.args.rack.now in
+    let none : 0 ≡ 0 * (2 * load_stripes c.args.shape.now) = omega arith in record {
+      only = search rules;
+      moved = subst (λ k. MadeMoves k now now) none
+          (MadeMoves-none g.R.Rack.tells_stands g.R.Rack.tells_contents now formed);
+      keeps = search rules;
+      fits = c.requires.fits;
+      records = λ told. LoadsMoved-none c.args.shape.now c.args.pass.now c.args.from c.args.to now.contents now.contents;
+    }
+
+pub returns-in_err-load_step-clause-only : goal.returns-in_err-load_step-clause-only
+returns-in_err-load_step-clause-only g c =
+    let s = c.args.shape.now in
+    let pass = c.args.pass.now in
+    ChangesOnly-trans (IsAreaUnit s c.args.to) _ _ _ c.loop-load.invariant.only
+    (ChangesOnly-wider (IsTargetUnit s pass c.args.to c.loop-load.load) (IsAreaUnit s c.args.to) _ _
+    (λ u. IsTargetUnit-area s pass c.args.to c.loop-load.load u c.requires.pass) c.load_step.ensures.only)
+
+pub returns-in_err-load_step-clause-moved : goal.returns-in_err-load_step-clause-moved
+returns-in_err-load_step-clause-moved g c =
+    let s = c.args.shape.now in
+    let load = c.loop-load.load in
+    let rows = 2 * load_stripes s in
+    let inside : load < 2 ^ (s.n - s.m) = subst (λ k. load < k) c.loads-load-end.ensures c.loop-load-test.true in
+    MakesMoves-failed (load * rows) rows (2 * stripes s) _ _ _ _ _ (rows_within s load inside) (λ ok. search rules)
+    c.loop-load.invariant.moved c.in_err-load_step.ensures.moved
+
+pub loop-load-preserved : goal.loop-load-preserved
+loop-load-preserved g c =
+    let s = c.args.shape.now in
+    let pass = c.args.pass.now in
+    let load = c.loop-load.load in
+    let rows = 2 * load_stripes s in
+    let inv = c.loop-load.invariant in
+    let before = g.R.Rack.view c.args.rack.now in
+    let now = g.R.Rack.view c.loop-load.rack in
+    let after = g.R.Rack.view c.load_step.new.rack in
+    let inside : load < 2 ^ (s.n - s.m) = subst (λ k. load < k) c.loads-load-end.ensures c.loop-load-test.true in
+    record {
+      only = ChangesOnly-trans (IsAreaUnit s c.args.to) _ _ _ inv.only
+          (ChangesOnly-wider (IsTargetUnit s pass c.args.to load) (IsAreaUnit s c.args.to) _ _
+          (λ u. IsTargetUnit-area s pass c.args.to load u c.requires.pass) c.load_step.ensures.only);
+      moved = MakesMoves-then (load * rows) rows ((load + 1) * rows) _ _ _ _ (omega (arith, rows_more load rows)) (λ _. rows_more load rows)
+          inv.moved (MadeMoves-ok rows _ _ _ refl c.in_ok-load_step.ensures.moved);
+      keeps = Keeps-trans _ _ _ inv.keeps c.load_step.ensures.keeps;
+      fits = c.load_step.ensures.fits;
+      records = λ told. LoadsMoved-more s pass c.args.from c.args.to load before.contents now after c.requires.pass inside
+          (source_stays s c.args.from c.args.to before now c.requires.areas inv.only) c.load_step.ensures.only (inv.records told) (c.in_ok-load_step.ensures.records told);
+    }
+
+pub returns-clause-records : goal.returns-clause-records
+returns-clause-records g c told =
+    let s = c.args.shape.now in
+    let all : c.loop-load.load ≡ 2 ^ (s.n - s.m) = omega arith in
+    LoadsMoved-all s c.args.pass.now c.args.from c.args.to c.loop-load.load
+    (g.R.Rack.view c.args.rack.now).contents (g.R.Rack.view c.loop-load.rack).contents c.requires.pass all
+    (c.loop-load.invariant.records told)
+
+pub returns-clause-moved : goal.returns-clause-moved
+returns-clause-moved g c =
+    let s = c.args.shape.now in
+    let all : c.loop-load.load ≡ 2 ^ (s.n - s.m) = omega arith in
+    MakesMoves-all (c.loop-load.load * (2 * load_stripes s)) (2 * stripes s) _ _ _
+    (ap (λ k. k * (2 * load_stripes s)) all ∙ rows_of_pass s) c.loop-load.invariant.moved

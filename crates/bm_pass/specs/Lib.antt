@@ -1,0 +1,2 @@
+pub mod LoadPlaces
+pub mod LoadMove

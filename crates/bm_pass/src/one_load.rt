@@ -1,0 +1,135 @@
+//! One load of a pass.
+ghost use Rattle.std.specs.Prelude.{◌≡◌, ◌≢◌, ℕ, ◌+◌, ◌-◌, ◌*◌, ◌^◌, ◌<◌, ◌≤◌, IsTrue, IsErr, OnOk, Some};
+ghost use Rattle.bm_base.specs.Shape.{dims_of, load_stripes};
+ghost use Rattle.bm_base.specs.Records.{SameRecords};
+ghost use Rattle.bm_base.specs.Butterfly.{butterflies};
+ghost use Rattle.bm_bufs.specs.Bufs.{FitsShape};
+ghost use Rattle.bm_forms.specs.PassForm.{IsOfShape};
+ghost use Rattle.bm_rack.specs.Frames.{Keeps, MakesMoves, HasCause, SameState, ChangesOnly};
+ghost use Rattle.bm_pass.specs.LoadPlaces.{IsOfLoad, AddsRow, HoldsLoad, placed_record};
+ghost use Rattle.bm_pass.specs.LoadMove.{LoadMoved, IsTargetUnit};
+
+use bm_base::{Area, Failed, Shape};
+use bm_bufs::{Bufs, Placing};
+use bm_butter::butterflies_at;
+use bm_forms::PassForm;
+use bm_rack::Rack;
+use bm_stripe::{read_stripe, write_spread};
+
+/// Reads one row of a load into the row list, and places its records in the load list.
+fn fill_row<R: Rack>(
+    rack: &mut R,
+    shape: &Shape,
+    from: Area,
+    load: u64,
+    row: u64,
+    placing: &Placing,
+    bufs: &mut Bufs,
+) -> Result<(), Failed>
+    requires attached { (R.view rack.old).attached ≡ Some (dims_of shape.now) }
+    requires load { load < 2 ^ (shape.now.n - shape.now.m) }
+    requires row { row < load_stripes shape.now }
+    requires placing { IsOfLoad shape.now placing.now }
+    requires fits { FitsShape shape.now bufs.old }
+
+    ensures records { IsTrue R.tells_contents
+        → OnOk result (AddsRow shape.now placing.now from load (R.view rack.old).contents row
+        bufs.old.load bufs.new.load) }
+    ensures fits { FitsShape shape.now bufs.new }
+    ensures state { SameState (R.view rack.old) (R.view rack.new) }
+    ensures moved { MakesMoves 1 (R.view rack.old) (R.view rack.new) result }
+    ensures keeps { Keeps (R.view rack.old) (R.view rack.new) }
+    ensures cause { HasCause (IsErr result) (R.view rack.old) (R.view rack.new) }
+{
+    let stripe = load * shape.load_stripes() + row;
+    read_stripe(rack, shape, from, stripe, bufs.row_mut())?;
+    bufs.place_row(placing, row << (shape.b() + shape.d()));
+    Ok(())
+}
+
+/// Reads a load into the load list, each record to its place: M/BD row calls.
+fn fill_load<R: Rack>(
+    rack: &mut R,
+    shape: &Shape,
+    from: Area,
+    load: u64,
+    placing: &Placing,
+    bufs: &mut Bufs,
+) -> Result<(), Failed>
+    requires attached { (R.view rack.old).attached ≡ Some (dims_of shape.now) }
+    requires load { load < 2 ^ (shape.now.n - shape.now.m) }
+    requires placing { IsOfLoad shape.now placing.now }
+    requires fits { FitsShape shape.now bufs.old }
+
+    ensures records { IsTrue R.tells_contents
+        → OnOk result (HoldsLoad shape.now placing.now from load (R.view rack.old).contents
+        bufs.new.load) }
+    ensures fits { FitsShape shape.now bufs.new }
+    ensures state { SameState (R.view rack.old) (R.view rack.new) }
+    ensures moved { MakesMoves (load_stripes shape.now) (R.view rack.old) (R.view rack.new) result }
+    ensures keeps { Keeps (R.view rack.old) (R.view rack.new) }
+    ensures cause { HasCause (IsErr result) (R.view rack.old) (R.view rack.new) }
+{
+    for row in 0..shape.load_stripes() {
+        fill_row(rack, shape, from, load, row, placing, bufs)?;
+    }
+    Ok(())
+}
+
+/// The butterflies of a pass, on the records of a load at their places.
+fn mix_load(shape: &Shape, placing: &Placing, low: u8, bufs: &mut Bufs)
+    requires placing { IsOfLoad shape.now placing.now }
+    requires low { low ≤ shape.now.m }
+    requires width { shape.now.width ≢ 8 → low ≡ 0 }
+    requires fits { FitsShape shape.now bufs.old }
+
+    ensures records { SameRecords (2 ^ shape.now.m)
+        (placed_record shape.now placing.now bufs.new.load)
+        (butterflies low (placed_record shape.now placing.now bufs.old.load)) }
+    ensures fits { FitsShape shape.now bufs.new }
+{
+    if low > 0 {
+        butterflies_at(bufs.load_mut(), &placing.a, placing.plus, low);
+    }
+}
+
+/// Moves one load: its records, after the butterflies, to where the pass sends them in area `to`.
+///
+/// It makes 2M/BD row calls and takes no memory. It stops at the first row call that fails. The
+/// blocks of the target records then hold anything.
+pub fn load_step<R: Rack>(
+    rack: &mut R,
+    shape: &Shape,
+    pass: &PassForm,
+    from: Area,
+    to: Area,
+    load: u64,
+    bufs: &mut Bufs,
+) -> Result<(), Failed>
+    requires attached { (R.view rack.old).attached ≡ Some (dims_of shape.now) }
+    requires pass { IsOfShape shape.now pass.now }
+    requires areas { from ≢ to }
+    requires load { load < 2 ^ (shape.now.n - shape.now.m) }
+    requires fits { FitsShape shape.now bufs.old }
+
+    ensures records { IsTrue R.tells_contents
+        → OnOk result (LoadMoved shape.now pass.now from to load
+        (R.view rack.old).contents (R.view rack.new).contents) }
+    ensures only { ChangesOnly (IsTargetUnit shape.now pass.now to load)
+        (R.view rack.old) (R.view rack.new) }
+    ensures fits { FitsShape shape.now bufs.new }
+    ensures moved { MakesMoves (2 * load_stripes shape.now)
+        (R.view rack.old) (R.view rack.new) result }
+    ensures keeps { Keeps (R.view rack.old) (R.view rack.new) }
+    ensures cause { HasCause (IsErr result) (R.view rack.old) (R.view rack.new) }
+{
+    let (a, plus) = pass.map.placing_for(load);
+    let placing = Placing {
+        a,
+        plus,
+        width: shape.width(),
+    };
+    fill_load(rack, shape, from, load, &placing, bufs)?;
+    mix_load(shape, &placing, pass.low, bufs);
+    write_spread(rack, shape, to, &pass.map.spread_for(load), bufs.load())
+}

@@ -1,0 +1,47 @@
+//! All loads of a pass.
+ghost use Rattle.std.specs.Prelude.{◌≡◌, ◌≢◌, ℕ, ◌+◌, ◌-◌, ◌*◌, ◌^◌, ◌<◌, ◌≤◌, IsTrue, IsErr, OnOk, Some};
+ghost use Rattle.bm_base.specs.Shape.{dims_of, stripes};
+ghost use Rattle.bm_base.specs.Records.{SameRecords, record_at};
+ghost use Rattle.bm_bufs.specs.Bufs.{FitsShape};
+ghost use Rattle.bm_forms.specs.PassForm.{IsOfShape, passed};
+ghost use Rattle.bm_rack.specs.Frames.{Keeps, MakesMoves, HasCause, ChangesOnly};
+ghost use Rattle.bm_stripe.specs.Units.{IsAreaUnit};
+
+use crate::one_load::load_step;
+use bm_base::{Area, Failed, Shape};
+use bm_bufs::Bufs;
+use bm_forms::PassForm;
+use bm_rack::Rack;
+
+/// Does a pass: area `to` becomes what the pass makes of area `from`, load after load.
+///
+/// It makes 2N/BD row calls and takes no memory. It stops at the first row call that fails. Area
+/// `to` then holds anything.
+pub fn run_pass<R: Rack>(
+    rack: &mut R,
+    shape: &Shape,
+    pass: &PassForm,
+    from: Area,
+    to: Area,
+    bufs: &mut Bufs,
+) -> Result<(), Failed>
+    requires attached { (R.view rack.old).attached ≡ Some (dims_of shape.now) }
+    requires pass { IsOfShape shape.now pass.now }
+    requires areas { from ≢ to }
+    requires fits { FitsShape shape.now bufs.old }
+
+    ensures records { IsTrue R.tells_contents
+        → OnOk result (SameRecords (2 ^ shape.now.n)
+        (record_at (R.view rack.new).contents shape.now to)
+        (passed pass.now (record_at (R.view rack.old).contents shape.now from))) }
+    ensures only { ChangesOnly (IsAreaUnit shape.now to) (R.view rack.old) (R.view rack.new) }
+    ensures fits { FitsShape shape.now bufs.new }
+    ensures moved { MakesMoves (2 * stripes shape.now) (R.view rack.old) (R.view rack.new) result }
+    ensures keeps { Keeps (R.view rack.old) (R.view rack.new) }
+    ensures cause { HasCause (IsErr result) (R.view rack.old) (R.view rack.new) }
+{
+    for load in 0..shape.loads() {
+        load_step(rack, shape, pass, from, to, load, bufs)?;
+    }
+    Ok(())
+}
