@@ -1,5 +1,6 @@
 -- One load, from what is read, mixed, placed and written.
 use Rattle.std.proofs.Common.{◌≡◌, ℕ, ◌+◌, ◌-◌, ◌*◌, ◌/◌, ◌%◌, ◌^◌, ◌<◌, ◌≤◌, List, sym, ap, ◌∙◌, subst, arith}
+use Rattle.std.specs.Fork.{slice_chunk}
 use Rattle.std.proofs.lemmas.Nat.{pow_pos, pow-add}
 use Rattle.std.proofs.Math.Nat.{mul_comm, mul-div_cancel, mul-le-mul_right}
 use Rattle.bm_base.specs.declared.shape.Shape.{Shape}
@@ -62,7 +63,7 @@ pub LoadMoved-written : (s : Shape) (pass : PassForm) (from to : Area) (load : �
     (filled mixed : List ℕ) → IsOfShape s pass → IsOfLoad s placing → load < 2 ^ (s.n - s.m)
     → SendsToTargets s pass load placing spread
     → HoldsLoad s placing from load old filled
-    → SameRecords (2 ^ s.m) (placed_record s placing mixed) (butterflies pass.low (placed_record s placing filled))
+    → SameRecords (2 ^ placing.a.n) (placed_record placing mixed) (butterflies pass.low (placed_record placing filled))
     → ((p : ℕ) → p < 2 ^ s.m → record_at new s to (2 ^ s.m * spread_value spread (p / 2 ^ s.b) + p) ≡ record_in s mixed p)
     → LoadMoved s pass from to load old new
 LoadMoved-written s pass from to load placing spread old new filled mixed of of_load inside sends read mix written i below =
@@ -72,8 +73,9 @@ LoadMoved-written s pass from to load placing spread old new filled mixed of of_
     let address : 2 ^ s.m * load + i < 2 ^ s.n = omega (arith, load_room s load inside) in
     ap (record_at new s to) (sends.lands i below)
     ∙ written place in_load
-    ∙ mix i below
-    ∙ sym (butterflies-block pass.low s.m load (record_at old s from) (placed_record s placing filled) of.low
+    ∙ ap (λ w. slice_chunk mixed w place) (sym of_load.width)
+    ∙ mix i (subst (λ k. i < 2 ^ k) (sym of_load.bits) below)
+    ∙ sym (butterflies-block pass.low s.m load (record_at old s from) (placed_record placing filled) of.low
     (λ t l. ap (λ c. record_at old s from (c + t)) (sym turned) ∙ sym (read t l)) i below)
     ∙ ap (λ c. butterflies pass.low (record_at old s from) (c + i)) (sym turned)
     ∙ sym (passed-image s.n pass (record_at old s from) (2 ^ s.m * load + i) (fits_of_shape s pass s.keeps.memory of) address)

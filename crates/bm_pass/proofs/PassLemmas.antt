@@ -73,7 +73,8 @@ LoadsMoved-none s pass from to old new x below = absurd (let none : 2 ^ s.m * 0 
 -- what a pass writes is apart from what it reads
 pub source_stays : (s : Shape) (from to : Area) (old new : RackView) → from ≢ to → ChangesOnly (IsAreaUnit s to) old new
     → SameRecords (2 ^ s.n) (record_at new.contents s from) (record_at old.contents s from)
-source_stays s from to old new apart only z below = record_at-other_area (IsAreaUnit s to) old new s to from z only (λ u in_area. in_area) apart below
+source_stays s from to old new apart only z below =
+    record_at-other_area (IsAreaUnit s to) old new s to from z only (λ u in_area. in_area) apart below
 
 -- the records of the area that is read decide
 pub LoadsMoved-same : (s : Shape) (pass : PassForm) (from to : Area) (loads : ℕ) (old other new : Contents) → IsOfShape s pass

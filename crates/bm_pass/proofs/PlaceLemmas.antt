@@ -109,20 +109,18 @@ HoldsRowsOfLoad-row s p from load row first contents old new of fits below here 
     let place = places_by p.a p.plus in
     let room : row * size + size ≤ 2 ^ s.m = row_room s row below in
     let end : (row + 1) * size ≡ row * size + size = omega arith in
-    let width : p.width ≡ s.width = of.width in
     ⊎_elim
     (λ (early : i < first).
     let one_of : i < 2 ^ p.a.n = rw of.bits (omega arith) in
-    subst (λ w. slice_chunk new.load w (place i) ≡ slice_chunk old.load w (place i)) width
-    (placed.load.others i one_of (inl early))
+    placed.load.others i one_of (inl early)
     ∙ before i (omega arith))
     (λ (late : first ≤ i).
     let r = i - first in
     let back : first + r ≡ i = omega arith in
     let in_row : r < size = omega arith in
-    ap (λ x. slice_chunk new.load s.width (place x)) (sym back)
-    ∙ subst (λ w. slice_chunk new.load w (place (first + r)) ≡ slice_chunk old.row w r) width
-    (placed.load.placed r (subst (λ k. r < k) (sym records) in_row))
+    ap (λ x. slice_chunk new.load p.width (place x)) (sym back)
+    ∙ placed.load.placed r (subst (λ k. r < k) (sym records) in_row)
+    ∙ ap (λ w. slice_chunk old.row w r) of.width
     ∙ read r in_row
     ∙ ap (record_at contents s from) (record_of_row s load row r ∙ ap (λ x. 2 ^ s.m * load + x) (ap (λ x. x + r) (sym here) ∙ back)))
     (cases_lt i first)

@@ -1,8 +1,10 @@
 //! One load of a pass.
-ghost use Rattle.std.specs.Prelude.{◌≡◌, ◌≢◌, ℕ, ◌+◌, ◌-◌, ◌*◌, ◌^◌, ◌<◌, ◌≤◌, IsTrue, IsErr, OnOk, Some};
+ghost use Rattle.std.specs.Prelude.{◌≡◌, ◌≢◌, ℕ, ◌+◌, ◌-◌, ◌*◌, ◌^◌, ◌<◌, ◌≤◌, IsTrue, IsErr, OnOk, Some, length};
+ghost use Rattle.bm_base.specs.declared.shape.Shape.{Shape};
 ghost use Rattle.bm_base.specs.Shape.{dims_of, load_stripes};
 ghost use Rattle.bm_base.specs.Records.{SameRecords};
 ghost use Rattle.bm_base.specs.Butterfly.{butterflies};
+ghost use Rattle.bm_gf2.specs.Matrix.{IsNonsingular};
 ghost use Rattle.bm_bufs.specs.Bufs.{FitsShape};
 ghost use Rattle.bm_forms.specs.PassForm.{IsOfShape};
 ghost use Rattle.bm_rack.specs.Frames.{Keeps, MakesMoves, HasCause, SameState, ChangesOnly};
@@ -47,7 +49,7 @@ fn fill_row<R: Rack>(
     Ok(())
 }
 
-/// Reads a load into the load list, each record to its place: M/BD row calls.
+/// Reads a load into the load list, each record to its place, in M/BD row calls.
 fn fill_load<R: Rack>(
     rack: &mut R,
     shape: &Shape,
@@ -76,17 +78,18 @@ fn fill_load<R: Rack>(
     Ok(())
 }
 
-/// The butterflies of a pass, on the records of a load at their places.
-fn mix_load(shape: &Shape, placing: &Placing, low: u8, bufs: &mut Bufs)
-    requires placing { IsOfLoad shape.now placing.now }
-    requires low { low ≤ shape.now.m }
-    requires width { shape.now.width ≢ 8 → low ≡ 0 }
-    requires fits { FitsShape shape.now bufs.old }
+/// Does the butterflies of a pass on the bits below `low`, on a load's records at their places.
+fn mix_load(placing: &Placing, low: u8, bufs: &mut Bufs)
+    requires nonsingular { IsNonsingular placing.now.a }
+    requires plus { placing.now.plus < 2 ^ placing.now.a.n }
+    requires low { low ≤ placing.now.a.n }
+    requires width { placing.now.width ≢ 8 → low ≡ 0 }
+    requires load { length bufs.old.load ≡ 2 ^ placing.now.a.n * placing.now.width }
 
-    ensures records { SameRecords (2 ^ shape.now.m)
-        (placed_record shape.now placing.now bufs.new.load)
-        (butterflies low (placed_record shape.now placing.now bufs.old.load)) }
-    ensures fits { FitsShape shape.now bufs.new }
+    ensures records { SameRecords (2 ^ placing.now.a.n)
+        (placed_record placing.now bufs.new.load)
+        (butterflies low (placed_record placing.now bufs.old.load)) }
+    ensures fits { (s : Shape) → FitsShape s bufs.old → FitsShape s bufs.new }
 {
     if low > 0 {
         butterflies_at(bufs.load_mut(), &placing.a, placing.plus, low);
@@ -95,8 +98,8 @@ fn mix_load(shape: &Shape, placing: &Placing, low: u8, bufs: &mut Bufs)
 
 /// Moves one load: its records, after the butterflies, to where the pass sends them in area `to`.
 ///
-/// It makes 2M/BD row calls and takes no memory. It stops at the first row call that fails. The
-/// blocks of the target records then hold anything.
+/// It makes 2M/BD row calls and takes no memory. It stops at the first row call that fails, and
+/// answers `Failed` only then. The blocks of the target records then hold anything.
 pub fn load_step<R: Rack>(
     rack: &mut R,
     shape: &Shape,
@@ -130,6 +133,6 @@ pub fn load_step<R: Rack>(
         width: shape.width(),
     };
     fill_load(rack, shape, from, load, &placing, bufs)?;
-    mix_load(shape, &placing, pass.low, bufs);
+    mix_load(&placing, pass.low, bufs);
     write_spread(rack, shape, to, &pass.map.spread_for(load), bufs.load())
 }

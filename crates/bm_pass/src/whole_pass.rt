@@ -15,8 +15,11 @@ use bm_rack::Rack;
 
 /// Does a pass: area `to` becomes what the pass makes of area `from`, load after load.
 ///
-/// It makes 2N/BD row calls and takes no memory. It stops at the first row call that fails. Area
-/// `to` then holds anything.
+/// It makes 2N/BD row calls and takes no memory. It stops at the first row call that fails, and
+/// answers `Failed` only then. Area `to` then holds anything.
+///
+/// Reads are striped, and each disk's writes go to a place of their own: so Cormen, Sundquist and
+/// Wisniewski do an MLD permutation in one pass.
 pub fn run_pass<R: Rack>(
     rack: &mut R,
     shape: &Shape,

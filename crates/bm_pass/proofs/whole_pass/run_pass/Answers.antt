@@ -57,7 +57,8 @@ loop-load-preserved g c =
       keeps = Keeps-trans _ _ _ inv.keeps c.load_step.ensures.keeps;
       fits = c.load_step.ensures.fits;
       records = λ told. LoadsMoved-more s pass c.args.from c.args.to load before.contents now after c.requires.pass inside
-          (source_stays s c.args.from c.args.to before now c.requires.areas inv.only) c.load_step.ensures.only (inv.records told) (c.in_ok-load_step.ensures.records told);
+          (source_stays s c.args.from c.args.to before now c.requires.areas inv.only) c.load_step.ensures.only
+          (inv.records told) (c.in_ok-load_step.ensures.records told);
     }
 
 pub returns-clause-records : goal.returns-clause-records
