@@ -13,3 +13,5 @@ mod flip_faults;
 mod flip_rows;
 #[cfg(test)]
 mod pass_rows;
+#[cfg(test)]
+mod plan_rows;

@@ -1,0 +1,66 @@
+-- Vectors that are kept or refused, and spans of those that were kept.
+use Rattle.std.proofs.Common.{◌≡◌, ℕ, zero, suc, ◌+◌, ◌-◌, ◌*◌, ◌/◌, ◌^◌, ◌<◌, ◌≤◌, Bool, true, false, not, if◌then◌else◌, List, [], ◌∷◌, ◌++◌, length, slice_index, bit_xor, refl, sym, ◌∙◌, subst, arith, add-one, ⊎_elim}
+use Rattle.std.specs.Int.{bit_at}
+use Rattle.std.proofs.lemmas.Nat.{shr_below}
+use Rattle.std.proofs.lemmas.Nat.Bits.{bit_at-lt}
+use Rattle.std.proofs.lemmas.Bool.{false≢true}
+use Rattle.std.proofs.lemmas.List.{get_or_append_left}
+use Rattle.std.proofs.Math.Seq.{get_or-append_seam}
+use Rattle.bm_gf2.specs.Vector.{xor_sum}
+use Rattle.bm_gf2.proofs.VectorLemmas.{xor_sum-pow, xor_sum_start, xor_sum-more, bit_cases, xor_cancel}
+use Rattle.bm_rank.specs.Span.{in_span}
+use Rattle.bm_rank.proofs.SpanLemmas.{in_span-sum, in_span-xor, in_span-zero}
+use Rattle.bm_rank.proofs.RankLemmas.{bool_cases}
+
+-- numbers below 2 ^ n, without the rows below m
+pub cut_below : (n m x : ℕ) → m ≤ n → x < 2 ^ n → x / 2 ^ m < 2 ^ (n - m)
+cut_below n m x l h = let e : (n - m) + m ≡ n = omega arith in shr_below x (n - m) m (subst (λ (k : ℕ). x < 2 ^ k) (sym e) h)
+
+-- a sum of members is a member
+pub in_span-xor_sum : (ws : List ℕ) (w : ℕ → ℕ) (k x : ℕ) → ((j : ℕ) → j < k → bit_at x j ≡ 1 → in_span ws (w j) ≡ true)
+    → in_span ws (xor_sum w k x) ≡ true
+in_span-xor_sum ws w zero x h = subst (λ (v : ℕ). in_span ws v ≡ true) (sym (xor_sum_start w x)) (in_span-zero ws)
+in_span-xor_sum ws w (suc k) x h =
+    let ih = in_span-xor_sum ws w k x (λ j l. h j (omega arith)) in
+    let e : xor_sum w (suc k) x ≡ bit_xor (xor_sum w k x) (bit_at x k * w k) = rw (← add-one) (xor_sum-more w k x) in
+    subst (λ (v : ℕ). in_span ws v ≡ true) (sym e)
+    (in_span-xor ws (xor_sum w k x) (bit_at x k * w k) ih
+    (⊎_elim
+    (λ (p : (bit_at x k ≡ 0) × (bit_at x k * w k ≡ 0)). subst (λ (v : ℕ). in_span ws v ≡ true) (sym p.1) (in_span-zero ws))
+    (λ (p : (bit_at x k ≡ 1) × (bit_at x k * w k ≡ w k)). subst (λ (v : ℕ). in_span ws v ≡ true) (sym p.1) (h k (omega arith) p.0))
+    (bit_cases (bit_at x k) (w k) (bit_at-lt x k))))
+
+-- each vector of a list is in its span
+pub in_span-member : (ws : List ℕ) (i : ℕ) → i < length ws → in_span ws (slice_index ws i) ≡ true
+in_span-member ws i l = subst (λ (v : ℕ). in_span ws v ≡ true) (xor_sum-pow (slice_index ws) (length ws) i l) (in_span-sum ws (2 ^ i))
+
+-- a member and no member add up to no member
+pub no_member : (ws : List ℕ) (u v : ℕ) → in_span ws u ≡ true → in_span ws v ≡ false → in_span ws (bit_xor u v) ≡ false
+no_member ws u v p q =
+    ⊎_elim
+    (λ (h : in_span ws (bit_xor u v) ≡ true). absurd (false≢true (sym q ∙ subst (λ (x : ℕ). in_span ws x ≡ true) (xor_cancel u v) (in_span-xor ws u (bit_xor u v) p h))))
+    (λ (h : in_span ws (bit_xor u v) ≡ false). h)
+    (bool_cases (in_span ws (bit_xor u v)))
+
+-- what an insert's answer tells
+pub insert_known : (s b : Bool) → b ≡ not (s) → b ≡ false → s ≡ true
+insert_known true b e h = refl
+insert_known false b e h = absurd (false≢true (sym h ∙ e))
+
+pub insert_fresh : (s b : Bool) → b ≡ not (s) → b ≡ true → s ≡ false
+insert_fresh true b e h = absurd (false≢true (sym e ∙ h))
+insert_fresh false b e h = refl
+
+pub insert_done : (kept kept2 : List ℕ) (w : ℕ) (s b : Bool) → b ≡ not (s) → kept2 ≡ (if b then kept ++ w ∷ [] else kept) → s ≡ false → kept2 ≡ kept ++ w ∷ []
+insert_done kept kept2 w s b e k h = let t : b ≡ true = e ∙ rw h refl in k ∙ rw t refl
+
+pub insert_same : (kept kept2 : List ℕ) (w : ℕ) (b : Bool) → kept2 ≡ (if b then kept ++ w ∷ [] else kept) → b ≡ false → kept2 ≡ kept
+insert_same kept kept2 w b k h = k ∙ rw h refl
+
+-- the vectors before the last
+pub kept_old : (kept : List ℕ) (w k : ℕ) → k < length kept → slice_index (kept ++ w ∷ []) k ≡ slice_index kept k
+kept_old kept w k l = get_or_append_left kept (w ∷ []) 0 k l
+
+-- the last vector
+pub kept_last : (kept : List ℕ) (w : ℕ) → slice_index (kept ++ w ∷ []) (length kept) ≡ w
+kept_last kept w = get_or-append_seam kept w [] 0
