@@ -35,7 +35,8 @@ trailing_fresh w n m j kept block mj jn long is =
     let xb : x < 2 ^ d = mod-lt s.0 (pow_pos d) in
     let y : ℕ = bit_xor x (2 ^ d) in
     let old : xor_sum u d x ≡ w j / 2 ^ m =
-    xor_sum-low u d s.0 ∙ sym (xor_sum-ext (slice_index kept) u d s.0 is) ∙ ap (λ (k : ℕ). xor_sum (slice_index kept) k s.0) (sym long) ∙ s.1 in
+    xor_sum-low u d s.0 ∙ sym (xor_sum-ext (slice_index kept) u d s.0 is) ∙ ap (λ (k : ℕ). xor_sum (slice_index kept) k s.0) (sym long)
+    ∙ s.1 in
     let new : u d ≡ w j / 2 ^ m = ap (λ (k : ℕ). w k / 2 ^ m) (let e : m + d ≡ j = omega arith in e) in
     let short : d < n - m = omega arith in
     let none : xor_sum u (n - m) y ≡ 0 =
@@ -51,12 +52,14 @@ trailing_fresh w n m j kept block mj jn long is =
     below_wider x d k l le = let p : 2 ^ d ≤ 2 ^ k = pow-le-pow_right (let t : 0 < 2 = omega arith in t) le in omega arith
 
 -- and is kept
-pub basis_more : (w : ℕ → ℕ) (n m j : ℕ) (kept kept2 : List ℕ) (v : ℕ) (b : Bool) → HasTrailingBlock w n m → m ≤ j → j < n → length kept ≡ j - m
+pub basis_more : (w : ℕ → ℕ) (n m j : ℕ) (kept kept2 : List ℕ) (v : ℕ) (b : Bool) → HasTrailingBlock w n m → m ≤ j → j < n
+    → length kept ≡ j - m
     → ((k : ℕ) → k < j - m → slice_index kept k ≡ w (m + k) / 2 ^ m) → v ≡ w j / 2 ^ m → b ≡ not (in_span kept v)
     → kept2 ≡ (if b then kept ++ v ∷ [] else kept)
     → (length kept2 ≡ (j + 1) - m) × ((k : ℕ) → k < (j + 1) - m → slice_index kept2 k ≡ w (m + k) / 2 ^ m)
 basis_more w n m j kept kept2 v b block mj jn long is ve be ke =
-    let fresh : in_span kept v ≡ false = subst (λ (x : ℕ). in_span kept x ≡ false) (sym ve) (trailing_fresh w n m j kept block mj jn long is) in
+    let fresh : in_span kept v ≡ false = subst (λ (x : ℕ). in_span kept x ≡ false) (sym ve)
+    (trailing_fresh w n m j kept block mj jn long is) in
     let all : kept2 ≡ kept ++ v ∷ [] = insert_done kept kept2 v (in_span kept v) b be ke fresh in (
       ap length all ∙ length-append kept (v ∷ []) ∙ (let e : length kept + 1 ≡ (j + 1) - m = omega arith in e),
       λ k l.
@@ -91,7 +94,8 @@ erasing_none a e b m size units l = record {
 
 -- a multiple of 2 ^ m has no bit below m
 high_bits : (v m j : ℕ) → j < m → bit_at (v * 2 ^ m) j ≡ 0
-high_bits v m j l = ap (λ (x : ℕ). bit_at x j) (let e : v * 2 ^ m ≡ v * 2 ^ m + 0 = omega arith in e) ∙ bit_at_cat_low v m 0 j l ∙ bit_at-zero j
+high_bits v m j l = ap (λ (x : ℕ). bit_at x j) (let e : v * 2 ^ m ≡ v * 2 ^ m + 0 = omega arith in e) ∙ bit_at_cat_low v m 0 j l
+    ∙ bit_at-zero j
 
 -- a set of the columns from m on, in rows m and above
 high_image : (a : Matrix) (m set : ℕ) → m ≤ a.n
@@ -171,8 +175,9 @@ turn_erased a e e2 b m j kept from set s bj jm mn fe long is sum below size chan
     ∙ ap (λ (k : ℕ). xor_sum (slice_index kept) k set) (sym long) ∙ sum ∙ ap (λ (k : ℕ). slice_index a.cols k / 2 ^ m) fe)
     size (changed ∙ (written a.n m j set a.few mn jm short).0) others
 
--- ---- all columns are done
+-- ---- the end
 
+-- all columns are done
 pub erasing_all : (a e : Matrix) (b m j : ℕ) → IsErasing a e b m j → j ≡ m → IsEraser a e b m
 erasing_all a e b m j s z = record {
   size = s.size;

@@ -1,10 +1,9 @@
--- The product of the factors, and the passes that undo them.
-use Rattle.std.proofs.Common.{◌≡◌, ℕ, ◌+◌, ◌-◌, ◌*◌, ◌/◌, ◌^◌, ◌<◌, ◌≤◌, List, [], ◌∷◌, ◌++◌, length, length-append, take, All, bit_xor, Result, Ok, Err, IfOk, MatchResult, IsErrAnd, refl, sym, ap, ◌∙◌, subst, arith, inl, inr, ⊎_elim, ◌⊎◌}
+-- The rounds of the factoring, and the passes that undo them.
+use Rattle.std.proofs.Common.{◌≡◌, ℕ, ◌+◌, ◌-◌, ◌*◌, ◌/◌, ◌^◌, ◌<◌, ◌≤◌, List, [], ◌∷◌, ◌++◌, length, length-append, take, All, bit_xor, refl, sym, ap, ◌∙◌, subst, arith, inl, inr, ⊎_elim, ◌⊎◌}
 use Rattle.std.specs.Int.{div_ceil}
 use Rattle.std.specs.Int.Bits.{xor_zero_l}
-use Rattle.std.proofs.Math.Nat.{mul-le-mul_right, add-mul, pow-le-pow_right}
+use Rattle.std.proofs.Math.Nat.{add-mul, pow-le-pow_right}
 use Rattle.std.proofs.Math.Seq.{take-append_seam}
-use Rattle.std.proofs.lemmas.Bool.{cases_lt}
 use Rattle.std.proofs.lemmas.Grind.{div_ceil_times}
 use Rattle.std.proofs.lemmas.List.Elements.{All-push, All-nil}
 use Rattle.bm_base.specs.declared.shape.Shape.{Shape}
@@ -12,107 +11,27 @@ use Rattle.bm_gf2.specs.declared.matrix.Matrix.{Matrix}
 use Rattle.bm_gf2.specs.declared.affine.Affine.{Affine}
 use Rattle.bm_gf2.specs.Matrix.{image, column, IsNonsingular}
 use Rattle.bm_gf2.specs.Affine.{affine_image}
-use Rattle.bm_gf2.proofs.VectorLemmas.{xor_sum-above, xor_sum-pow, xor_sum-ext, xor_sum-lt}
-use Rattle.bm_rank.specs.Rank.{rank_of_rows}
 use Rattle.bm_rank.specs.RowSolution.{IsCovered}
-use Rattle.bm_rank.proofs.RankBoundLemmas.{rank_of_rows-le}
 use Rattle.bm_rank.proofs.RowCutLemmas.{image_below}
 use Rattle.bm_forms.specs.declared.pass_form.PassForm.{PassForm}
 use Rattle.bm_forms.specs.declared.job.Job.TheVariants.{Permute}
-use Rattle.bm_forms.specs.declared.mld_form.FormError.{FormError}
-use Rattle.bm_forms.specs.declared.mld_form.FormError.TheVariants.{NotMld}
-use Rattle.bm_forms.specs.Mld.{IsMld, HasNoTop, FormErrorIs}
-use Rattle.bm_forms.specs.PassLimit.{map_limit}
-use Rattle.bm_forms.specs.Plan.{PlanValue, DoJob, StandsFor}
-use Rattle.bm_forms.proofs.MldLemmas.{covered_after, nonsingular_after, nonsingular_of_involution, HasNoTop-rows, IsMrc-is_mld}
+use Rattle.bm_forms.specs.Mld.{IsMld, HasNoTop}
+use Rattle.bm_forms.specs.Plan.{DoJob}
+use Rattle.bm_forms.proofs.MldLemmas.{covered_after, nonsingular_after, HasNoTop-rows, IsMrc-is_mld}
 use Rattle.bm_forms.proofs.PassFormLemmas.{fits_of_shape}
-use Rattle.bm_forms.proofs.PassLimitLemmas.{cut_same}
-use Rattle.bm_forms.proofs.PermutationLemmas.{affine-lt, nonsingular_long}
+use Rattle.bm_forms.proofs.PermutationLemmas.{affine-lt}
 use Rattle.bm_forms.proofs.PlanLemmas.{route, route-append, IsPlainOf, plain_do}
-use Rattle.bm_factor.specs.Columns.{product, top_count, HasTrailingBlock, IsOwnInverse}
-use Rattle.bm_factor.specs.Trailer.{IsTrailer}
-use Rattle.bm_factor.specs.Reducer.{IsReducer}
-use Rattle.bm_factor.specs.Swapper.{IsSwapper}
-use Rattle.bm_factor.specs.Eraser.{IsEraser}
+use Rattle.bm_factor.specs.Columns.{top_count, HasTrailingBlock}
 use Rattle.bm_factor.specs.Factoring.{IsSplit, AppendsPass, AreWithoutButterflies, AreLinearButLast}
-use Rattle.bm_factor.proofs.ColumnLemmas.{top_count-ext, top_count-split, top_count-none, none_counted}
-
--- ---- products of factors
-
--- a matrix, two factors that are their own inverses, and what undoes their product
-pub split_of_involutions : (a t r at rest done : Matrix) → IsNonsingular a → t.n ≡ a.n → r.n ≡ a.n → at.n ≡ a.n → rest.n ≡ a.n → done.n ≡ a.n
-    → IsOwnInverse t → IsOwnInverse r → ((x : ℕ) → image at x ≡ image a (image t x)) → ((x : ℕ) → image rest x ≡ image at (image r x))
-    → ((x : ℕ) → image done x ≡ image r (image t x)) → IsSplit a rest done
-split_of_involutions a t r at rest done na tn rn atn restn donen it ir ca cr cd =
-    let nt : IsNonsingular t = nonsingular_of_involution t it in
-    let nr : IsNonsingular r = nonsingular_of_involution r ir in
-    let nat : IsNonsingular at = nonsingular_after a t at (sym atn) (tn ∙ sym atn) ca na nt in
-    record {
-      size_rest = restn;
-      size_done = donen;
-      rest_nonsingular = nonsingular_after at r rest (atn ∙ sym restn) (rn ∙ sym restn) cr nat nr;
-      done_nonsingular = nonsingular_after r t done (rn ∙ sym donen) (tn ∙ sym donen) cd nr nt;
-      undone = λ x h.
-          let inner : image t x < 2 ^ r.n = subst (λ (k : ℕ). image t x < 2 ^ k) (tn ∙ sym rn) (image_below t x) in
-          cr (image done x) ∙ ap (λ (v : ℕ). image at (image r v)) (cd x) ∙ ap (image at) (ir (image t x) inner)
-          ∙ ca (image t x) ∙ ap (image a) (it x (subst (λ (k : ℕ). x < 2 ^ k) (sym tn) h));
-    }
-
--- the trailing rows of the columns from m on decide
-pub block-ext : (v w : ℕ → ℕ) (n m : ℕ) → ((j : ℕ) → m ≤ j → j < n → v j ≡ w j) → HasTrailingBlock w n m → HasTrailingBlock v n m
-block-ext v w n m same block = λ y h z.
-    block y h (xor_sum-ext (λ k. w (m + k) / 2 ^ m) (λ k. v (m + k) / 2 ^ m) (n - m) y
-    (λ k l. ap (λ (c : ℕ). c / 2 ^ m) (sym (same (m + k) (omega arith) (omega arith)))) ∙ z)
-
--- a unit column of the second factor leaves a column
-pub column_kept : (a t p : Matrix) (j : ℕ) → p.n ≡ a.n → ((k : ℕ) → k < p.n → column p k ≡ image a (column t k)) → j < a.n → column t j ≡ 2 ^ j
-    → column p j ≡ column a j
-column_kept a t p j pn cols l unit = cols j (omega arith) ∙ ap (image a) unit ∙ xor_sum-pow (column a) a.n j l
-
--- columns below 2 ^ m keep vectors below 2 ^ m there
-pub stays_low : (t : Matrix) (m x : ℕ) → m ≤ t.n → ((j : ℕ) → j < m → column t j < 2 ^ m) → x < 2 ^ m → image t x < 2 ^ m
-stays_low t m x l short h = subst (λ (v : ℕ). v < 2 ^ m) (sym (xor_sum-above (column t) m t.n x l h)) (xor_sum-lt (column t) m m x short)
-
--- the count after the trailer and the reducer is the rank
-pub reduced_count : (a t at r rest : Matrix) (m : ℕ) → IsTrailer a t m → IsReducer at r m → m ≤ a.n → IsNonsingular a → IsNonsingular at
-    → at.n ≡ a.n → rest.n ≡ a.n → ((k : ℕ) → k < at.n → column at k ≡ image a (column t k))
-    → ((k : ℕ) → k < rest.n → column rest k ≡ image at (column r k)) → top_count (column rest) m m ≡ rank_of_rows a.cols m m
-reduced_count a t at r rest m st sr mn na nat atn restn ca cr =
-    let la : m ≤ length a.cols = (let k = nonsingular_long a na in omega arith) in
-    let lat : m ≤ length at.cols = (let k = nonsingular_long at nat in omega arith) in
-    top_count-ext (column rest) (product at r) m m (λ j l. ap (λ (c : ℕ). c / 2 ^ m) (cr j (omega arith)))
-    ∙ sr.count ∙ cut_same at.cols a.cols m m lat la (λ j l. column_kept a t at j atn ca (omega arith) (st.kept j l))
-
--- after the swapper and the eraser m - b columns fewer have something in rows m and above
-pub erased_count : (a s sw e rest : Matrix) (b m : ℕ) → IsSwapper a s b m → IsEraser sw e b m → b < m → m ≤ a.n → sw.n ≡ a.n → rest.n ≡ a.n
-    → ((k : ℕ) → k < sw.n → column sw k ≡ image a (column s k)) → ((k : ℕ) → k < rest.n → column rest k ≡ image sw (column e k))
-    → top_count (column rest) m m ≡ top_count (column a) m m - (m - b)
-erased_count a s sw e rest b m ss se bm mn asn restn cs ce =
-    let d : ℕ = m - b in
-    let v : ℕ → ℕ = product a s in
-    let whole : m ≡ b + d = omega arith in
-    let parts : top_count v m m ≡ top_count v m b + top_count (λ k. v (b + k)) m d = ap (top_count v m) whole ∙ top_count-split v m b d in
-    let all = ss.same in
-    let most = ss.most in
-    let left : top_count (column rest) m m ≡ top_count (column rest) m b + top_count (λ k. column rest (b + k)) m d =
-    ap (top_count (column rest) m) whole ∙ top_count-split (column rest) m b d in
-    let none : top_count (λ k. column rest (b + k)) m d ≡ 0 =
-    top_count-none (λ k. column rest (b + k)) m d
-    (λ k l. ap (λ (c : ℕ). c / 2 ^ m) (ce (b + k) (omega arith)) ∙ se.erased (b + k) (omega arith) (omega arith)) in
-    let first : top_count (column rest) m b ≡ top_count v m b =
-    top_count-ext (column rest) v m b
-    (λ j l. ap (λ (c : ℕ). c / 2 ^ m) (column_kept sw e rest j (restn ∙ sym asn) ce (omega arith) (se.first j l) ∙ cs j (omega arith))) in
-    omega arith
-
--- ---- passes in order
+use Rattle.bm_factor.proofs.TopCountLemmas.{none_counted}
 
 -- the map of one more pass
-route_more : (forms : List PassForm) (p : PassForm) (x : ℕ) → route (forms ++ p ∷ []) x ≡ affine_image p.map.map (route forms x)
+pub route_more : (forms : List PassForm) (p : PassForm) (x : ℕ) → route (forms ++ p ∷ []) x ≡ affine_image p.map.map (route forms x)
 unfolding route
 route_more forms p x = route-append forms (p ∷ []) x
 
 -- no pass
-route_none : (x : ℕ) → route [] x ≡ x
+pub route_none : (x : ℕ) → route [] x ≡ x
 unfolding route
 route_none x = refl
 
@@ -161,22 +80,25 @@ pub round_mld : (s : Shape) (a rest done rest2 done2 p : Matrix) (rank i : ℕ) 
     → IsFactoring s a rest done rank i forms → IsSplit rest rest2 done2 → IsCovered done2 s.b s.m → p.n ≡ done2.n
     → ((x : ℕ) → image p x ≡ image done2 (image done x)) → IsMld p s.b s.m
 round_mld s a rest done rest2 done2 p rank i forms f split covered pn comp = (
-  nonsingular_after done2 done p (sym pn) (f.size_done ∙ sym (split.size_done ∙ f.size_rest) ∙ sym pn) comp split.done_nonsingular f.done_nonsingular,
+  nonsingular_after done2 done p (sym pn)
+      (f.size_done ∙ sym (split.size_done ∙ f.size_rest) ∙ sym pn) comp split.done_nonsingular f.done_nonsingular,
   covered_after done2 done p s.b s.m comp f.stays covered,
 )
 
--- what a pass adds to the plain ones
-pub plain_more : (s : Shape) (forms forms2 : List PassForm) (f : Affine) → All (IsPlainOf s.n) forms → AppendsPass s forms forms2 f → s.m ≤ s.n
+-- one pass more, and all are plain
+pub plain_more : (s : Shape) (forms forms2 : List PassForm) (f : Affine) → All (IsPlainOf s.n) forms → AppendsPass s forms forms2 f
+    → s.m ≤ s.n
     → All (IsPlainOf s.n) forms2
 plain_more s forms forms2 f all more mn =
     subst (All (IsPlainOf s.n)) (sym more.is)
     (All-push (IsPlainOf s.n) forms more.pass all (record { fits = fits_of_shape s more.pass mn more.of_shape; plain = more.low }))
 
--- and to the others
+-- the map of one pass more
 pub route_appended : (s : Shape) (forms forms2 : List PassForm) (f : Affine) (x : ℕ) → AppendsPass s forms forms2 f
     → route forms2 x ≡ affine_image f (route forms x)
 route_appended s forms forms2 f x more =
-    ap (λ (l : List PassForm). route l x) more.is ∙ route_more forms more.pass x ∙ ap (λ (g : Affine). affine_image g (route forms x)) more.map
+    ap (λ (l : List PassForm). route l x) more.is ∙ route_more forms more.pass x
+    ∙ ap (λ (g : Affine). affine_image g (route forms x)) more.map
 
 -- one round more
 pub factoring_more : (s : Shape) (a rest done rest2 done2 p id : Matrix) (rank i : ℕ) (forms forms2 : List PassForm) (f : Affine)
@@ -225,7 +147,7 @@ factoring_more s a rest done rest2 done2 p id rank i forms forms2 f r split pn c
 
 -- ---- the end
 
--- after as many rounds as the rank says, what is left is MRC, so MLD
+-- after as many rounds as the rank says, nothing is left in rows m and above
 pub rest_has_no_top : (s : Shape) (a rest done : Matrix) (rank i : ℕ) (forms : List PassForm) → IsFactoring s a rest done rank i forms
     → i ≡ div_ceil rank (s.m - s.b) → HasNoTop rest s.m
 rest_has_no_top s a rest done rank i forms r ie =
@@ -237,6 +159,7 @@ rest_has_no_top s a rest done rank i forms r ie =
     let count = r.count in
     none_counted (column rest) s.m s.m (omega arith)
 
+-- so what is left is MRC, and MLD
 pub rest_mld : (s : Shape) (a rest done : Matrix) (rank i : ℕ) (forms : List PassForm) → IsFactoring s a rest done rank i forms
     → i ≡ div_ceil rank (s.m - s.b) → IsMld rest s.b s.m
 rest_mld s a rest done rank i forms r ie =
@@ -263,7 +186,8 @@ no_round_mld s a rest done rank i forms r ie na still =
     below_wider x m n h l = let p : 2 ^ m ≤ 2 ^ n = pow-le-pow_right (let t : 0 < 2 = omega arith in t) l in omega arith
 
 -- the loop's end, by the numbers that the code has
-pub rounds_done : (i rounds rank m b m2 b2 : ℕ) → i ≡ rounds → rounds ≡ div_ceil rank (m - b) → m ≡ m2 → b ≡ b2 → i ≡ div_ceil rank (m2 - b2)
+pub rounds_done : (i rounds rank m b m2 b2 : ℕ) → i ≡ rounds → rounds ≡ div_ceil rank (m - b) → m ≡ m2 → b ≡ b2
+    → i ≡ div_ceil rank (m2 - b2)
 rounds_done i rounds rank m b m2 b2 e r me be = e ∙ r ∙ ap (λ (k : ℕ). div_ceil rank (k - b)) me ∙ ap (λ (k : ℕ). div_ceil rank (m2 - k)) be
 
 -- with the last pass, which has the constant, the passes in order do the permutation
@@ -283,12 +207,13 @@ factoring_does s map last rest done rank i forms forms2 r ie size na apart more 
     ∙ ap (λ (c : ℕ). bit_xor c (image last.a y)) lc ∙ ap (λ (g : Matrix). bit_xor map.c (image g y)) la
     ∙ ap (λ (v : ℕ). bit_xor map.c (image rest v)) (sym still) ∙ ap (bit_xor map.c) (r.undone x h))
 
--- no butterflies, and linear maps before the last
+-- no pass has butterflies
 pub low_appended : (s : Shape) (forms forms2 : List PassForm) (f : Affine) → All (λ (p : PassForm). p.low ≡ 0) forms
     → AppendsPass s forms forms2 f → AreWithoutButterflies forms2
 low_appended s forms forms2 f all more =
     subst (All (λ (p : PassForm). p.low ≡ 0)) (sym more.is) (All-push (λ (p : PassForm). p.low ≡ 0) forms more.pass all more.low)
 
+-- the maps before the last are linear
 pub linear_appended : (s : Shape) (forms forms2 : List PassForm) (f : Affine) → All (λ (p : PassForm). p.map.map.c ≡ 0) forms
     → AppendsPass s forms forms2 f → AreLinearButLast forms2
 linear_appended s forms forms2 f all more =
@@ -298,67 +223,3 @@ linear_appended s forms forms2 f all more =
     let front : take (length forms2 - 1) forms2 ≡ forms =
     ap (λ (k : ℕ). take k forms2) long ∙ ap (take (length forms)) more.is ∙ take-append_seam forms (more.pass ∷ []) in
     subst (All (λ (p : PassForm). p.map.map.c ≡ 0)) (sym front) all
-
--- ---- one pass
-
-pub one_does : (s : Shape) (map f : Affine) (forms : List PassForm) → AppendsPass s [] forms f → f ≡ map → map.a.n ≡ s.n → IsNonsingular map.a
-    → DoJob forms s.n (Permute map)
-one_does s map f forms more fe size na =
-    plain_do s.n forms map (plain_more s [] forms f (All-nil (IsPlainOf s.n)) more s.keeps.memory) size na
-    (λ x h. route_appended s [] forms f x more ∙ ap (λ (g : Affine). affine_image g (route [] x)) fe ∙ ap (affine_image map) (route_none x))
-
--- ---- the pass limit
-
--- rounded up, k more is at most one more
-ceil_more : (x y k : ℕ) → 0 < k → x ≤ y + k → div_ceil x k ≤ div_ceil y k + 1
-ceil_more x y k pos le =
-    ⊎_elim
-    (λ (p : div_ceil y k + 1 < div_ceil x k).
-    let t = div_ceil_times x k pos in
-    let u = div_ceil_times y k pos in
-    let over : div_ceil x k * k < x + k = t.1 in
-    let under : y ≤ div_ceil y k * k = u.0 in
-    let m : (div_ceil y k + 2) * k ≤ div_ceil x k * k = mul-le-mul_right k (omega arith) in
-    let e : (div_ceil y k + 2) * k ≡ div_ceil y k * k + 2 * k = add-mul (div_ceil y k) 2 k in
-    absurd (omega arith))
-    (λ (p : div_ceil x k ≤ div_ceil y k + 1). p)
-    (cases_lt (div_ceil y k + 1) (div_ceil x k))
-
--- the plan has no more passes than the limit
-pub count_within : (a : Matrix) (b m count : ℕ) → IsNonsingular a → b < m → m ≤ a.n
-    → count ≡ div_ceil (rank_of_rows a.cols m m) (m - b) + 1 → count ≤ map_limit a.cols b m
-count_within a b m count na bm mn e =
-    let long = nonsingular_long a na in
-    let le = rank_of_rows-le a.cols b m (omega arith) (omega arith) in
-    let c = ceil_more (rank_of_rows a.cols m m) (rank_of_rows a.cols b b) (m - b) (omega arith) le in
-    omega arith
-
--- ---- results whose error is changed
-
--- the value stays
-pub ok_through : {T E F : Type 0} (r : Result T E) (q : Result T F) (P : T → Type 0) (R : E → F → Type 0)
-    → MatchResult r (λ x. q ≡ Ok x) (λ e. IsErrAnd q (R e)) → IfOk r P → IfOk q P
-ok_through (Ok x) q P R m h = subst (λ k. IfOk k P) (sym m) h
-ok_through (Err e) (Ok y) P R m h = absurd m
-ok_through (Err e) (Err f) P R m h = tt
-
--- the one pass of an MLD map, in a plan of the shape
-pub one_stands : (s : Shape) (map f : Affine) (plan : PlanValue) → f ≡ map → map.a.n ≡ s.n → IsNonsingular map.a → plan.shape ≡ s
-    → AppendsPass s [] plan.forms f → StandsFor plan s (Permute map)
-one_stands s map f plan fe size na shape more = record { shape = shape; does = one_does s map f plan.forms more fe size na }
-
--- two facts of one value
-pub both_ok : {T E : Type 0} (r : Result T E) (P Q : T → Type 0) → IfOk r P → IfOk r Q → IfOk r (λ x. P x × Q x)
-both_ok (Ok x) P Q p q = (p, q)
-both_ok (Err e) P Q p q = tt
-
--- a map that is not MLD for no other cause is nonsingular
-pub nonsingular_of_error : (a : Matrix) (b m x : ℕ) (e : FormError) → e ≡ NotMld x → FormErrorIs a b m e → IsNonsingular a
-nonsingular_of_error a b m x e is f = (subst (FormErrorIs a b m) is f).0
-
--- the high rank is at most the lower rank and lg(M/B)
-pub high_rank_bound : (a : Matrix) (s : Shape) → a.n ≡ s.n → IsNonsingular a
-    → rank_of_rows a.cols s.m s.m ≤ rank_of_rows a.cols s.b s.b + (s.m - s.b)
-high_rank_bound a s size nonsingular =
-    let long : a.n ≤ length a.cols = nonsingular_long a nonsingular in
-    rank_of_rows-le a.cols s.b s.m (omega (arith, s.keeps.block)) (omega (arith, s.keeps.memory))

@@ -38,22 +38,27 @@ in_span-member ws i l = subst (λ (v : ℕ). in_span ws v ≡ true) (xor_sum-pow
 pub no_member : (ws : List ℕ) (u v : ℕ) → in_span ws u ≡ true → in_span ws v ≡ false → in_span ws (bit_xor u v) ≡ false
 no_member ws u v p q =
     ⊎_elim
-    (λ (h : in_span ws (bit_xor u v) ≡ true). absurd (false≢true (sym q ∙ subst (λ (x : ℕ). in_span ws x ≡ true) (xor_cancel u v) (in_span-xor ws u (bit_xor u v) p h))))
+    (λ (h : in_span ws (bit_xor u v) ≡ true). absurd
+    (false≢true (sym q ∙ subst (λ (x : ℕ). in_span ws x ≡ true) (xor_cancel u v) (in_span-xor ws u (bit_xor u v) p h))))
     (λ (h : in_span ws (bit_xor u v) ≡ false). h)
     (bool_cases (in_span ws (bit_xor u v)))
 
--- what an insert's answer tells
-pub insert_known : (s b : Bool) → b ≡ not (s) → b ≡ false → s ≡ true
+-- a vector that is refused is in the span
+pub insert_known : (s b : Bool) → b ≡ not s → b ≡ false → s ≡ true
 insert_known true b e h = refl
 insert_known false b e h = absurd (false≢true (sym h ∙ e))
 
-pub insert_fresh : (s b : Bool) → b ≡ not (s) → b ≡ true → s ≡ false
+-- one that is kept is not
+pub insert_fresh : (s b : Bool) → b ≡ not s → b ≡ true → s ≡ false
 insert_fresh true b e h = absurd (false≢true (sym e ∙ h))
 insert_fresh false b e h = refl
 
-pub insert_done : (kept kept2 : List ℕ) (w : ℕ) (s b : Bool) → b ≡ not (s) → kept2 ≡ (if b then kept ++ w ∷ [] else kept) → s ≡ false → kept2 ≡ kept ++ w ∷ []
+-- one that is not in the span stands last
+pub insert_done : (kept kept2 : List ℕ) (w : ℕ) (s b : Bool) → b ≡ not s → kept2 ≡ (if b then kept ++ w ∷ [] else kept) → s ≡ false
+    → kept2 ≡ kept ++ w ∷ []
 insert_done kept kept2 w s b e k h = let t : b ≡ true = e ∙ rw h refl in k ∙ rw t refl
 
+-- where one is refused nothing changes
 pub insert_same : (kept kept2 : List ℕ) (w : ℕ) (b : Bool) → kept2 ≡ (if b then kept ++ w ∷ [] else kept) → b ≡ false → kept2 ≡ kept
 insert_same kept kept2 w b k h = k ∙ rw h refl
 

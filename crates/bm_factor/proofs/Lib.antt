@@ -1,7 +1,12 @@
 pub mod ColumnLemmas
+pub mod TopCountLemmas
 pub mod InsertLemmas
 pub mod TrailerLemmas
 pub mod ReducerLemmas
+pub mod ReducerTurnLemmas
 pub mod SwapperLemmas
+pub mod SwapperTurnLemmas
 pub mod EraserLemmas
+pub mod SplitLemmas
 pub mod FactoringLemmas
+pub mod PassCountLemmas

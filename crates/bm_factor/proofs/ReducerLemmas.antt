@@ -1,9 +1,8 @@
 -- The loop of the reducer, from column m - 1 down: a column that is new in rows m and above stays, another one becomes 0 there.
-use Rattle.std.proofs.Common.{◌≡◌, ◌≢◌, ℕ, ◌+◌, ◌-◌, ◌*◌, ◌/◌, ◌%◌, ◌^◌, ◌<◌, ◌≤◌, Bool, true, false, not, if◌then◌else◌, List, [], ◌∷◌, ◌++◌, length, length-append, slice_index, set, get_or-set_other, get_or-set_same, bit_xor, refl, sym, ap, ◌∙◌, subst, arith, ⊎_elim, inl, inr, ◌⊎◌}
+use Rattle.std.proofs.Common.{◌≡◌, ◌≢◌, ℕ, ◌+◌, ◌-◌, ◌*◌, ◌/◌, ◌^◌, ◌<◌, ◌≤◌, true, false, List, [], ◌∷◌, ◌++◌, length, length-append, slice_index, set, bit_xor, refl, sym, ap, ◌∙◌, subst, arith, ⊎_elim, inl, inr, ◌⊎◌}
 use Rattle.std.specs.Int.{bit_at}
 use Rattle.std.specs.Int.Bits.{xor_shr, xor_self, xor_zero_l}
-use Rattle.std.proofs.lemmas.Nat.{xor_lt, pow_pos, pow_below, one_shl}
-use Rattle.std.proofs.Math.Nat.{pow-le-pow_right}
+use Rattle.std.proofs.lemmas.Nat.{pow_pos, pow_below}
 use Rattle.std.proofs.lemmas.Nat.Bits.{bit_at-zero, bit_at-pow_same, bit_at-pow_other, same_from_bits_below, bit_at-lt}
 use Rattle.std.proofs.lemmas.Bool.{cases_lt, cases_eq, false≢true}
 use Rattle.bm_gf2.specs.Vector.{xor_sum}
@@ -12,13 +11,12 @@ use Rattle.bm_gf2.specs.Matrix.{image, column}
 use Rattle.bm_gf2.proofs.VectorLemmas.{xor_sum-zero, xor_sum-xor, xor_sum-pow, xor_sum-shr, xor_sum-bit, xor_sum-xor_sum, xor_sum-ext, xor_sum-lt, bit_cases, bit_of_xor, xor_same}
 use Rattle.bm_rank.specs.Span.{in_span, sum_of}
 use Rattle.bm_rank.specs.Echelon.{weight}
-use Rattle.bm_rank.specs.Rank.{rank_of_rows}
 use Rattle.bm_rank.proofs.SpanLemmas.{in_span-zero}
 use Rattle.bm_rank.proofs.RankBoundLemmas.{in_span-append_left}
-use Rattle.bm_factor.specs.Columns.{product, top_count, IsOwnInverse}
-use Rattle.bm_factor.specs.Reducer.{IsReducer}
-use Rattle.bm_factor.proofs.ColumnLemmas.{xor_sum-picked, own_inverse, unit_back, added_back, top_count-ext, top_count-split, top_count-le, top_count-one, weight-none, weight-some, xor_sum-zeros}
-use Rattle.bm_factor.proofs.InsertLemmas.{in_span-xor_sum, in_span-member, insert_fresh, insert_done, insert_same, kept_old, kept_last}
+use Rattle.bm_factor.specs.Columns.{product, top_count}
+use Rattle.bm_factor.proofs.ColumnLemmas.{xor_sum-picked, xor_sum-zeros}
+use Rattle.bm_factor.proofs.TopCountLemmas.{top_count-ext, top_count-split, top_count-le, top_count-one, weight-none, weight-some}
+use Rattle.bm_factor.proofs.InsertLemmas.{in_span-xor_sum, in_span-member, kept_old, kept_last}
 
 -- a vector without bits below j that r leaves unchanged
 pub record IsFixed (r : Matrix) (j c : ℕ) : Type 0 where
@@ -66,7 +64,8 @@ reducing_none a r m pivots size units l =
     }
 
 -- a change of a column below j leaves what is fixed
-fixed_later : (r r2 : Matrix) (j i c : ℕ) → r2.n ≡ r.n → i < j → ((k : ℕ) → k ≢ i → column r2 k ≡ column r k) → IsFixed r j c → IsFixed r2 i c
+fixed_later : (r r2 : Matrix) (j i c : ℕ) → r2.n ≡ r.n → i < j → ((k : ℕ) → k ≢ i → column r2 k ≡ column r k) → IsFixed r j c
+    → IsFixed r2 i c
 fixed_later r r2 j i c size l others f = record {
   high = λ q h. f.high q (omega arith);
   same = ap (λ (n : ℕ). xor_sum (column r2) n c) size
@@ -138,7 +137,8 @@ module _ (a r r2 : Matrix) (m i : ℕ) (kept : List ℕ) (pivots : ℕ → ℕ) 
       (λ (p : i ≤ k).
       ⊎_elim
       (λ (e : k ≡ i).
-      let z : bit_at (bit_xor x (2 ^ i)) k ≡ 0 = parts ∙ xor_same (ap (bit_at x) e ∙ one) (ap (bit_at (2 ^ i)) e ∙ bit_at-pow_same i) ∙ xor_self 1 in
+      let z : bit_at (bit_xor x (2 ^ i)) k ≡ 0 = parts ∙ xor_same (ap (bit_at x) e ∙ one) (ap (bit_at (2 ^ i)) e ∙ bit_at-pow_same i)
+      ∙ xor_self 1 in
       absurd (omega arith))
       (λ (e : k ≢ i). subst (λ (v : ℕ). in_span kept v ≡ true) (sym (same_top k e)) (s.spanned k (omega arith) l))
       (cases_eq k i))
@@ -235,7 +235,8 @@ reducing_fresh a r m i kept kept2 pivots pivots2 s im mn fresh ke old new =
 -- column i is a sum of pivots in rows m and above: these are added, and it becomes 0 there
 pub reducing_known : (a r r2 : Matrix) (m i : ℕ) (kept : List ℕ) (pivots : ℕ → ℕ) (set : ℕ) → IsReducing a r m (i + 1) kept pivots → i < m
     → m ≤ a.n → r2.n ≡ r.n → ((k : ℕ) → k ≢ i → column r2 k ≡ column r k)
-    → column r2 i ≡ bit_xor (xor_sum pivots (length kept) set) (2 ^ i) → sum_of kept set ≡ column a i / 2 ^ m → IsReducing a r2 m i kept pivots
+    → column r2 i ≡ bit_xor (xor_sum pivots (length kept) set) (2 ^ i) → sum_of kept set ≡ column a i / 2 ^ m
+    → IsReducing a r2 m i kept pivots
 reducing_known a r r2 m i kept pivots set s im mn size2 others is sum =
     let size : r.n ≡ a.n = s.size in
     let count : ℕ = length kept in
@@ -274,89 +275,6 @@ reducing_known a r r2 m i kept pivots set s im mn size2 others is sum =
           ∙ (let w = weight-none (product a r2 i / 2 ^ m) top in omega arith);
     }
 
--- all columns are done
-pub reducing_all : (a r : Matrix) (m : ℕ) (kept : List ℕ) (pivots : ℕ → ℕ) → IsReducing a r m 0 kept pivots → m ≤ a.n
-    → length kept ≡ rank_of_rows a.cols m m → IsReducer a r m
-reducing_all a r m kept pivots s mn ranked = record {
-  size = s.size;
-  within = λ j l.
-      let d = s.done j (omega arith) l in
-      subst (λ (v : ℕ). v < 2 ^ m) (sym d.is) (xor_lt m d.added (2 ^ j) d.below (pow_below j m l));
-  kept = s.last;
-  independent = λ x h zeros sum. s.independent x h (λ k q. absurd (omega arith)) (λ k q _ z. zeros k q z) sum;
-  count = top_count-ext (product a r) (λ k. product a r (0 + k)) m m
-      (λ j l. ap (λ (k : ℕ). product a r k / 2 ^ m) (let e : j ≡ 0 + j = omega arith in e))
-      ∙ ap (top_count (λ k. product a r (0 + k)) m) (let e : m ≡ m - 0 = omega arith in e) ∙ s.counted ∙ ranked;
-}
-
--- the reducer adds to each column what it leaves unchanged
-pub reducing_inverse : (a r : Matrix) (m : ℕ) (kept : List ℕ) (pivots : ℕ → ℕ) → IsReducing a r m 0 kept pivots → IsOwnInverse r
-reducing_inverse a r m kept pivots s =
-    let size : r.n ≡ a.n = s.size in
-    own_inverse r
-    (λ j inside.
-    ⊎_elim
-    (λ (p : j < m). let d = s.done j (omega arith) p in added_back r j d.added inside d.is d.fixed.same)
-    (λ (p : m ≤ j). unit_back r j inside (s.last j p (omega arith)))
-    (cases_lt j m))
-
 -- no more were kept than columns are done
 pub few_kept : (a r : Matrix) (m j : ℕ) (kept : List ℕ) (pivots : ℕ → ℕ) → IsReducing a r m j kept pivots → length kept ≤ m - j
 few_kept a r m j kept pivots s = let l = top_count-le (λ k. product a r (j + k)) m (m - j) in let e = s.counted in omega arith
-
--- ---- the steps as the code makes them: j columns are left, and column j - 1 is next
-
--- it is kept, and its unit vector is written as a pivot
-pub turn_fresh : (a r : Matrix) (m j : ℕ) (kept kept2 pivots : List ℕ) (from count at : ℕ) (b : Bool)
-    → IsReducing a r m j kept (slice_index pivots) → 0 < j → j ≤ m → m ≤ a.n → from ≡ j - 1
-    → b ≡ not (in_span kept (slice_index a.cols from / 2 ^ m))
-    → kept2 ≡ (if b then kept ++ (slice_index a.cols from / 2 ^ m) ∷ [] else kept) → b ≡ true
-    → length kept ≡ count → at ≡ count → length pivots ≡ 52
-    → IsReducing a r m (j - 1) kept2 (slice_index (set pivots at (1 * 2 ^ (j - 1) % 2 ^ 64)))
-turn_fresh a r m j kept kept2 pivots from count at b s pos le mn fe be ke is_true long ae room =
-    let i : ℕ = j - 1 in
-    let few : a.n ≤ 52 = a.few in
-    let e : j ≡ i + 1 = omega arith in
-    let u : ℕ = slice_index a.cols from / 2 ^ m in
-    let here : u ≡ column a i / 2 ^ m = ap (λ (k : ℕ). slice_index a.cols k / 2 ^ m) fe in
-    let fresh : in_span kept u ≡ false = insert_fresh (in_span kept u) b be is_true in
-    let kept_few = few_kept a r m j kept (slice_index pivots) s in
-    let unit : 1 * 2 ^ i % 2 ^ 64 ≡ 2 ^ i = one_shl i 64 (omega arith) in
-    let place : length kept ≡ at = long ∙ sym ae in
-    reducing_fresh a r m i kept kept2 (slice_index pivots) (slice_index (set pivots at (1 * 2 ^ i % 2 ^ 64)))
-    (subst (λ (k : ℕ). IsReducing a r m k kept (slice_index pivots)) e s) (omega arith) mn
-    (subst (λ (v : ℕ). in_span kept v ≡ false) here fresh)
-    (insert_done kept kept2 u (in_span kept u) b be ke fresh ∙ ap (λ (v : ℕ). kept ++ v ∷ []) here)
-    (λ k l. let ne : k ≢ at = omega arith in rw get_or-set_other refl)
-    (let inside : at < length pivots = omega arith in rw (place, get_or-set_same) unit)
-
--- it is a sum of pivots, and these are added
-pub turn_known : (a r r2 : Matrix) (m j : ℕ) (kept kept2 pivots : List ℕ) (from count set v : ℕ) (b : Bool)
-    → IsReducing a r m j kept (slice_index pivots) → 0 < j → j ≤ m → m ≤ a.n → from ≡ j - 1
-    → kept2 ≡ (if b then kept ++ (slice_index a.cols from / 2 ^ m) ∷ [] else kept) → b ≡ false
-    → length kept ≡ count → sum_of kept2 set ≡ slice_index a.cols from / 2 ^ m → v ≡ xor_sum (slice_index pivots) count set
-    → r2.n ≡ r.n → column r2 (j - 1) ≡ bit_xor v (1 * 2 ^ (j - 1) % 2 ^ 64) → ((k : ℕ) → k ≢ j - 1 → column r2 k ≡ column r k)
-    → IsReducing a r2 m (j - 1) kept2 (slice_index pivots)
-turn_known a r r2 m j kept kept2 pivots from count set v b s pos le mn fe ke is_false long sum ve size changed others =
-    let i : ℕ = j - 1 in
-    let few : a.n ≤ 52 = a.few in
-    let e : j ≡ i + 1 = omega arith in
-    let same : kept2 ≡ kept = insert_same kept kept2 (slice_index a.cols from / 2 ^ m) b ke is_false in
-    let unit : 1 * 2 ^ i % 2 ^ 64 ≡ 2 ^ i = one_shl i 64 (omega arith) in
-    subst (λ (l : List ℕ). IsReducing a r2 m i l (slice_index pivots)) (sym same)
-    (reducing_known a r r2 m i kept (slice_index pivots) set
-    (subst (λ (k : ℕ). IsReducing a r m k kept (slice_index pivots)) e s) (omega arith) mn size others
-    (changed ∙ xor_same (ve ∙ ap (λ (k : ℕ). xor_sum (slice_index pivots) k set) (sym long)) unit)
-    (ap (λ (l : List ℕ). sum_of l set) (sym same) ∙ sum ∙ ap (λ (k : ℕ). slice_index a.cols k / 2 ^ m) fe))
-
--- the changed column is short
-pub turn_below : (a r : Matrix) (m j : ℕ) (kept pivots : List ℕ) (count set v : ℕ) → IsReducing a r m j kept (slice_index pivots) → 0 < j → j ≤ m
-    → m ≤ a.n → length kept ≡ count → v ≡ xor_sum (slice_index pivots) count set → bit_xor v (1 * 2 ^ (j - 1) % 2 ^ 64) < 2 ^ r.n
-turn_below a r m j kept pivots count set v s pos le mn long ve =
-    let size : r.n ≡ a.n = s.size in
-    let few : a.n ≤ 52 = a.few in
-    let unit : 1 * 2 ^ (j - 1) % 2 ^ 64 ≡ 2 ^ (j - 1) = one_shl (j - 1) 64 (omega arith) in
-    let wide : 2 ^ m ≤ 2 ^ r.n = pow-le-pow_right (let t : 0 < 2 = omega arith in t) (let t : m ≤ r.n = omega arith in t) in
-    let short : xor_sum (slice_index pivots) count set < 2 ^ m =
-    xor_sum-lt (slice_index pivots) count m set (λ i l. s.pivot_below i (omega arith)) in
-    rw (unit, ve) (xor_lt r.n (xor_sum (slice_index pivots) count set) (2 ^ (j - 1)) (omega arith) (pow_below (j - 1) r.n (omega arith)))

@@ -1,55 +1,15 @@
 -- The loop of the swapper, from column m - 1 down: a column that is 0 in rows m and above is exchanged with the first one that is not.
-use Rattle.std.proofs.Common.{◌≡◌, ◌≢◌, ℕ, zero, suc, ◌+◌, ◌-◌, ◌/◌, ◌^◌, ◌<◌, ◌≤◌, refl, sym, ap, ◌∙◌, subst, arith, inl, inr, ⊎_elim, ◌⊎◌}
+use Rattle.std.proofs.Common.{◌≡◌, ◌≢◌, ℕ, ◌+◌, ◌-◌, ◌/◌, ◌^◌, ◌<◌, ◌≤◌, refl, sym, ap, ◌∙◌, subst, arith, inl, inr, ⊎_elim, ◌⊎◌}
 use Rattle.std.proofs.lemmas.Bool.{cases_lt, cases_eq}
 use Rattle.std.specs.Int.{bit_at}
 use Rattle.std.proofs.lemmas.Nat.Bits.{bit_at-pow_same, bit_at-pow_other}
 use Rattle.bm_gf2.specs.declared.matrix.Matrix.{Matrix}
 use Rattle.bm_gf2.specs.Matrix.{image, column}
 use Rattle.bm_gf2.proofs.VectorLemmas.{xor_sum-pow}
-use Rattle.bm_rank.specs.Echelon.{weight}
 use Rattle.bm_factor.specs.Columns.{product, top_count, IsOwnInverse}
 use Rattle.bm_factor.specs.Swapper.{IsSwapper, IsExchanged}
-use Rattle.bm_factor.proofs.ColumnLemmas.{own_inverse, unit_back, top_count-more, top_count-ext, top_count-split, top_count-le, top_count-none, top_count-all}
-
--- ---- counts
-
--- another column p
-count_changed : (v w : ℕ → ℕ) (m p k : ℕ) → p < k → ((j : ℕ) → j < k → j ≢ p → v j / 2 ^ m ≡ w j / 2 ^ m)
-    → top_count v m k + weight (w p / 2 ^ m) ≡ top_count w m k + weight (v p / 2 ^ m)
-unfolding top_count
-count_changed v w m p zero l h = absurd (omega arith)
-count_changed v w m p (suc k) l h =
-    ⊎_elim
-    (λ (e : p ≡ k).
-    let same = top_count-ext v w m k (λ j q. h j (omega arith) (omega arith)) in
-    let a : weight (w p / 2 ^ m) ≡ weight (w k / 2 ^ m) = ap (λ (i : ℕ). weight (w i / 2 ^ m)) e in
-    let b : weight (v p / 2 ^ m) ≡ weight (v k / 2 ^ m) = ap (λ (i : ℕ). weight (v i / 2 ^ m)) e in
-    omega arith)
-    (λ (e : p ≢ k).
-    let ih = count_changed v w m p k (omega arith) (λ j q ne. h j (omega arith) ne) in
-    let last : weight (v k / 2 ^ m) ≡ weight (w k / 2 ^ m) = ap weight (h k (omega arith) (λ z. e (sym z))) in
-    omega arith)
-    (cases_eq p k)
-
--- columns k and i exchanged
-pub count_exchanged : (v w : ℕ → ℕ) (m k i n : ℕ) → k < i → i < n → v k ≡ w i → v i ≡ w k → ((j : ℕ) → j ≢ k → j ≢ i → v j ≡ w j)
-    → top_count v m n ≡ top_count w m n
-count_exchanged v w m k i n ki len vk vi others =
-    let top : ℕ → ℕ = λ c. c / 2 ^ m in
-    let first = count_changed v w m k i ki (λ j l ne. let ni : j ≢ i = omega arith in ap top (others j ne ni)) in
-    let a : weight (v k / 2 ^ m) ≡ weight (w i / 2 ^ m) = ap (λ (c : ℕ). weight (c / 2 ^ m)) vk in
-    let b : weight (v i / 2 ^ m) ≡ weight (w k / 2 ^ m) = ap (λ (c : ℕ). weight (c / 2 ^ m)) vi in
-    let vm = top_count-more v m i in
-    let wm = top_count-more w m i in
-    let d : ℕ = n - (i + 1) in
-    let e : n ≡ (i + 1) + d = omega arith in
-    let vs = top_count-split v m (i + 1) d in
-    let ws = top_count-split w m (i + 1) d in
-    let rest = top_count-ext (λ j. v (i + 1 + j)) (λ j. w (i + 1 + j)) m d
-    (λ j l. let nk : i + 1 + j ≢ k = omega arith in let ni : i + 1 + j ≢ i = omega arith in ap top (others (i + 1 + j) nk ni)) in
-    ap (top_count v m) e ∙ (let f : top_count v m ((i + 1) + d) ≡ top_count w m ((i + 1) + d) = omega arith in f) ∙ ap (top_count w m) (sym e)
-
--- ---- the loop
+use Rattle.bm_factor.proofs.ColumnLemmas.{own_inverse, unit_back}
+use Rattle.bm_factor.proofs.TopCountLemmas.{count_exchanged, top_count-ext, top_count-split, top_count-le, top_count-none, top_count-all}
 
 -- columns i..m-1 are done, and those below `next` that are left are 0 in rows m and above: columns `from`..m-1 are not, and
 -- those before are, unless `from` is i
@@ -193,7 +153,8 @@ swapping_exchanged a s s2 m next i k s1 im mn none nk ki some zeros size2 first 
       size = size2 ∙ s1.size;
       exchanged = λ j l.
           ⊎_elim
-          (λ (e : j ≡ i). subst (λ (x : ℕ). IsExchanged s2 m x) (sym e) (record { with = k; below = omega arith; is = now_i; back = now_k }))
+          (λ (e : j ≡ i). subst (λ (x : ℕ). IsExchanged s2 m x) (sym e)
+          (record { with = k; below = omega arith; is = now_i; back = now_k }))
           (λ (e : j ≢ i).
           ⊎_elim
           (λ (f : j ≡ k). subst (λ (x : ℕ). IsExchanged s2 m x) (sym f) (record { with = i; below = im; is = now_k; back = now_i }))
@@ -205,7 +166,8 @@ swapping_exchanged a s s2 m next i k s1 im mn none nk ki some zeros size2 first 
           (cases_eq j k))
           (cases_eq j i);
       kept = λ j p q. let ni : j ≢ i = omega arith in let nk2 : j ≢ k = omega arith in others j ni nk2 ∙ s1.kept j p q;
-      free = λ j p q. let ni : j ≢ i = omega arith in let nk2 : j ≢ k = omega arith in others j ni nk2 ∙ s1.free j (omega arith) (omega arith);
+      free = λ j p q. let ni : j ≢ i = omega arith in let nk2 : j ≢ k = omega arith in others j ni nk2
+          ∙ s1.free j (omega arith) (omega arith);
       used = λ j p q.
           ⊎_elim
           (λ (e : j ≡ k). ap (λ (x : ℕ). product a s2 x / 2 ^ m) e ∙ ap (λ (c : ℕ). c / 2 ^ m) top_k ∙ none)
@@ -214,7 +176,8 @@ swapping_exchanged a s s2 m next i k s1 im mn none nk ki some zeros size2 first 
           ap (λ (c : ℕ). c / 2 ^ m) (old j ni e)
           ∙ ⊎_elim
           (λ (f : j < next). s1.used j f (omega arith))
-          (λ (f : next ≤ j). ap (λ (c : ℕ). c / 2 ^ m) (unit_column a s j (omega arith) (s1.free j f (omega arith))) ∙ zeros j f (omega arith))
+          (λ (f : next ≤ j). ap (λ (c : ℕ). c / 2 ^ m) (unit_column a s j (omega arith) (s1.free j f (omega arith)))
+          ∙ zeros j f (omega arith))
           (cases_lt j next))
           (cases_eq j k);
       counted = count_exchanged (product a s2) (product a s) m k i m ki im (ap (image a) second) (ap (image a) first) (λ j p q. old j q p)
@@ -225,7 +188,8 @@ swapping_exchanged a s s2 m next i k s1 im mn none nk ki some zeros size2 first 
       full = λ j p q.
           ⊎_elim
           (λ (e : j ≡ i). λ z. some (ap (λ (c : ℕ). c / 2 ^ m) (sym top_i) ∙ ap (λ (x : ℕ). product a s2 x / 2 ^ m) (sym e) ∙ z))
-          (λ (e : j ≢ i). λ z. let nk2 : j ≢ k = omega arith in s1.full j (omega arith) q (ap (λ (c : ℕ). c / 2 ^ m) (sym (old j e nk2)) ∙ z))
+          (λ (e : j ≢ i). λ z. let nk2 : j ≢ k = omega arith in s1.full j (omega arith) q
+          (ap (λ (c : ℕ). c / 2 ^ m) (sym (old j e nk2)) ∙ z))
           (cases_eq j i);
       rest = inl refl;
     }
@@ -277,34 +241,3 @@ swapper_inverse a s b m w mn =
     ap (image s) x.is ∙ xor_sum-pow (column s) s.n x.with l ∙ x.back)
     (λ (p : m ≤ j). unit_back s j inside (w.kept j p (omega arith)))
     (cases_lt j m))
-
--- ---- the steps as the code makes them: i columns are left, and column i - 1 is next
-
-pub turn_kept : (a s : Matrix) (m next i at : ℕ) → IsSwapping a s m next i → 0 < i → m ≤ a.n → at ≡ i - 1 → column a at / 2 ^ m ≢ 0
-    → IsSwapping a s m next (i - 1)
-turn_kept a s m next i at w pos mn ae some =
-    let e : i ≡ (i - 1) + 1 = omega arith in
-    let low : i ≤ w.from = w.from_low in
-    let high : w.from ≤ m = w.from_high in
-    swapping_kept a s m next (i - 1) (subst (λ (k : ℕ). IsSwapping a s m next k) e w) (omega arith) mn
-    (λ z. some (ap (λ (k : ℕ). column a k / 2 ^ m) ae ∙ z))
-
-pub turn_none : (a s : Matrix) (m next i at k : ℕ) → IsSwapping a s m next i → 0 < i → m ≤ a.n → at ≡ i - 1 → column a at / 2 ^ m ≡ 0
-    → i - 1 ≤ k → ((p : ℕ) → next ≤ p → p < k → column a p / 2 ^ m ≡ 0) → IsSwapping a s m next (i - 1)
-turn_none a s m next i at k w pos mn ae none ik zeros =
-    let e : i ≡ (i - 1) + 1 = omega arith in
-    let low : i ≤ w.from = w.from_low in
-    let high : w.from ≤ m = w.from_high in
-    swapping_none_left a s m next (i - 1) k (subst (λ (x : ℕ). IsSwapping a s m next x) e w) (omega arith) mn
-    (ap (λ (x : ℕ). column a x / 2 ^ m) (sym ae) ∙ none) ik zeros
-
-pub turn_exchanged : (a s s2 : Matrix) (m next i at k : ℕ) → IsSwapping a s m next i → 0 < i → m ≤ a.n → at ≡ i - 1 → column a at / 2 ^ m ≡ 0
-    → next ≤ k → k < i - 1 → column a k / 2 ^ m ≢ 0 → ((p : ℕ) → next ≤ p → p < k → column a p / 2 ^ m ≡ 0)
-    → s2.n ≡ s.n → column s2 (i - 1) ≡ column s k → column s2 k ≡ column s (i - 1)
-    → ((j : ℕ) → j ≢ i - 1 → j ≢ k → column s2 j ≡ column s j) → IsSwapping a s2 m (k + 1) (i - 1)
-turn_exchanged a s s2 m next i at k w pos mn ae none nk ki some zeros size first second others =
-    let e : i ≡ (i - 1) + 1 = omega arith in
-    let low : i ≤ w.from = w.from_low in
-    let high : w.from ≤ m = w.from_high in
-    swapping_exchanged a s s2 m next (i - 1) k (subst (λ (x : ℕ). IsSwapping a s m next x) e w) (omega arith) mn
-    (ap (λ (x : ℕ). column a x / 2 ^ m) (sym ae) ∙ none) nk ki some zeros size first second others

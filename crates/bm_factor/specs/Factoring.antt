@@ -1,5 +1,5 @@
 -- Plans of permutations: how many passes they have, and why there is none.
-use Rattle.std.specs.Prelude.{ℕ, ◌≡◌, ◌+◌, ◌-◌, ◌^◌, ◌<◌, List, [], ◌∷◌, ◌++◌, length, take}
+use Rattle.std.specs.Prelude.{ℕ, ◌≡◌, ◌+◌, ◌-◌, ◌^◌, ◌<◌, ◌≤◌, List, [], ◌∷◌, ◌++◌, length, take}
 use Rattle.std.specs.Int.{div_ceil}
 use Rattle.std.specs.List.{All}
 use Rattle.bm_gf2.specs.declared.matrix.Matrix.{Matrix}
@@ -16,6 +16,7 @@ use Rattle.bm_factor.specs.declared.error.FactorError.TheVariants.{Singular, Out
 
 -- one pass for an MLD matrix; else the rank of rows m and above of columns 0..m-1, over lg(M/B) and rounded up, and one
 pub record IsPassCount (a : Matrix) (b m count : ℕ) : Type 0 where
+  pub some : 1 ≤ count
   pub one : IsMld a b m → count ≡ 1
   pub several : ¬ IsMld a b m → count ≡ div_ceil (rank_of_rows a.cols m m) (m - b) + 1
 

@@ -2,7 +2,7 @@
 
 use thiserror::Error;
 
-/// Why there is no plan for a permutation.
+/// Why there is no plan of a permutation.
 #[derive(Clone, Copy, Debug, PartialEq, Eq, Error)]
 pub enum FactorError {
     /// The matrix sends x to 0, the least such vector but 0.

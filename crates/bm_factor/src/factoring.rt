@@ -26,9 +26,10 @@ use std::alloc::Global;
 /// The plan of the permutation by the map: one pass where its matrix A is MLD, else g + 1 passes
 /// with g the rank of rows m to n-1 of columns 0 to m-1, over lg(M/B) and rounded up.
 ///
-/// `A T R S1 E1 .. Sg Eg = F` with T the trailer, R the reducer, Si and Ei the swapper and the eraser
-/// of round i. Pass 1 has the matrix `E1 S1 R T`, pass i of the others `Ei Si`, the last one F and
-/// the map's constant (after the factoring of Cormen, Sundquist and Wisniewski).
+/// `A T R S1 E1 .. Sg Eg = F` with T the trailer, R the reducer, Si and Ei the swapper and the
+/// eraser of round i, each its own inverse. Pass 1 has the matrix `E1 S1 R T`, pass i from 2 to g
+/// `Ei Si`, the last one F and the map's constant (after the factoring of Cormen, Sundquist and
+/// Wisniewski). `Singular` comes exactly where A is, with the least vector that A sends to 0.
 pub fn factor(alloc: Global, shape: &Shape, map: &Affine) -> Result<Plan, FactorError>
     requires size { map.now.a.n ≡ shape.now.n }
     ensures stands { IfOk result (λ plan. StandsFor plan shape.now (Permute map.now)) }

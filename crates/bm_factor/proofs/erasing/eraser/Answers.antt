@@ -20,7 +20,8 @@ combination-requires c =
     let a = c.args.a.now in
     let mn : c.m-m.result ≤ a.n = omega (arith, c.m-m.ensures, c.args.shape.now.keeps.memory, c.requires.size) in
     let inside : c.loop-j.j < a.n = omega arith in
-    rw (c.from.ensures, c.trailing_basis-found.ensures.size) (cut_below a.n c.m-m.result (column a c.loop-j.j) mn (a.below c.loop-j.j inside))
+    rw (c.from.ensures, c.trailing_basis-found.ensures.size)
+    (cut_below a.n c.m-m.result (column a c.loop-j.j) mn (a.below c.loop-j.j inside))
 
 pub with_column-e-requires-clause-below : goal.with_column-e-requires-clause-below
 with_column-e-requires-clause-below c =
@@ -34,7 +35,8 @@ loop-j-preserved c =
     let a = c.args.a.now in
     let mn : c.m-m.result ≤ a.n = omega (arith, c.m-m.ensures, c.args.shape.now.keeps.memory, c.requires.size) in (
       turn_erased a c.loop-j.e c.with_column-e.result c.args.shape.now.b c.m-m.result c.loop-j.j c.trailing_basis-found.result.kept
-          c.from.result c.unwrap-set.result c.loop-j.invariant.0 (omega (arith, c.b-j.ensures, c.loop-j.auto.j)) c.loop-j-test.true mn c.from.ensures
+          c.from.result c.unwrap-set.result c.loop-j.invariant.0
+          (omega (arith, c.b-j.ensures, c.loop-j.auto.j)) c.loop-j-test.true mn c.from.ensures
           c.trailing_basis-found.ensures.long c.trailing_basis-found.ensures.columns
           (rw c.unwrap-set.ensures at c.combination.ensures.sum) (rw c.unwrap-set.ensures at c.combination.ensures.below)
           c.with_column-e.ensures.size c.with_column-e.ensures.changed c.with_column-e.ensures.others,

@@ -7,7 +7,8 @@ use Rattle.bm_factor.proofs.erasing.trailing_basis.Goals as goal
 pub insert-requires : goal.insert-requires
 insert-requires c =
     let a = c.args.a.now in
-    rw (c.from.ensures, c.loop-j.invariant.0) (cut_below a.n c.args.m (column a c.loop-j.j) c.requires.m (a.below c.loop-j.j c.loop-j-test.true))
+    rw (c.from.ensures, c.loop-j.invariant.0)
+    (cut_below a.n c.args.m (column a c.loop-j.j) c.requires.m (a.below c.loop-j.j c.loop-j-test.true))
 
 pub loop-j-preserved : goal.loop-j-preserved
 loop-j-preserved c =

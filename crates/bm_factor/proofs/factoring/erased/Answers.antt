@@ -2,7 +2,7 @@ use Rattle.std.proofs.Common.{ℕ, ◌≡◌, ◌<◌, ◌≤◌, ◌^◌, ◌�
 use Rattle.std.proofs.lemmas.Nat.{pow_below}
 use Rattle.bm_gf2.specs.Matrix.{column}
 use Rattle.bm_forms.proofs.MldLemmas.{covered_after}
-use Rattle.bm_factor.proofs.FactoringLemmas.{split_of_involutions, block-ext, column_kept, stays_low, erased_count}
+use Rattle.bm_factor.proofs.SplitLemmas.{split_of_involutions, block-ext, column_kept, stays_low, erased_count}
 use Rattle.bm_factor.proofs.factoring.erased.Goals as goal
 
 pub eraser-e-requires-clause-trailing : goal.eraser-e-requires-clause-trailing
@@ -11,7 +11,8 @@ eraser-e-requires-clause-trailing c =
     let s = c.swapper-s.ensures.swapper in
     let size : c.mul-swapped.result.n ≡ a.n = c.mul-swapped.ensures.size in
     block-ext (column c.mul-swapped.result) (column a) c.mul-swapped.result.n c.args.shape.now.m
-    (λ j p q. column_kept a c.swapper-s.result c.mul-swapped.result j size c.mul-swapped.ensures.columns (omega arith) (s.kept j p (omega arith)))
+    (λ j p q. column_kept a c.swapper-s.result c.mul-swapped.result j size c.mul-swapped.ensures.columns (omega arith)
+    (s.kept j p (omega arith)))
     (rw size c.requires.trailing)
 
 pub returns-clause-split : goal.returns-clause-split

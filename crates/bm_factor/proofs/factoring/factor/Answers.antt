@@ -1,5 +1,4 @@
 use Rattle.std.proofs.Common.{◌≡◌, ◌≤◌, [], length, subst, arith}
-use Rattle.bm_factor.proofs.FactoringLemmas.{high_rank_bound}
 use Rattle.bm_gf2.specs.declared.affine.Affine.{Affine}
 use Rattle.bm_gf2.specs.Matrix.{IsNonsingular}
 use Rattle.std.proofs.lemmas.Result.{IfOk-weaker}
@@ -7,13 +6,14 @@ use Rattle.bm_forms.specs.declared.job.Job.TheVariants.{Permute}
 use Rattle.bm_forms.specs.Plan.{StandsFor}
 use Rattle.bm_forms.specs.PassLimit.{map_limit}
 use Rattle.bm_factor.specs.Factoring.{AreWithoutButterflies, AreLinearButLast, AppendsPass}
-use Rattle.bm_factor.proofs.FactoringLemmas.{ok_through, both_ok, one_stands, count_within, nonsingular_of_error}
+use Rattle.bm_factor.proofs.PassCountLemmas.{ok_through, both_ok, one_stands, count_within, nonsingular_of_error, high_rank_bound}
 use Rattle.bm_factor.proofs.factoring.factor.Goals as goal
 
 pub returns-in-Ok-clause-stands : goal.returns-in-Ok-clause-stands
 returns-in-Ok-clause-stands c =
     let same : c.in-Ok.form.map ≡ c.args.map.now = (rw c.in-Ok.is at c.of.ensures.form).0 in
-    ok_through c.one_pass.result c.map_err.result (λ plan. StandsFor plan c.args.shape.now (Permute c.args.map.now)) _ c.map_err.ensures.cases
+    ok_through c.one_pass.result c.map_err.result
+    (λ plan. StandsFor plan c.args.shape.now (Permute c.args.map.now)) _ c.map_err.ensures.cases
     (IfOk-weaker c.one_pass.result _ _
     (λ plan h. one_stands c.args.shape.now c.args.map.now c.in-Ok.form.map plan same c.requires.size
     (subst (λ (f : Affine). IsNonsingular f.a) same c.in-Ok.form.nonsingular) h.0 h.1)

@@ -3,7 +3,7 @@ use Rattle.bm_gf2.specs.Matrix.{image, column}
 use Rattle.bm_forms.proofs.MldLemmas.{nonsingular_after, nonsingular_of_involution}
 use Rattle.bm_factor.specs.Columns.{product}
 use Rattle.bm_factor.proofs.ColumnLemmas.{unchanged_low}
-use Rattle.bm_factor.proofs.FactoringLemmas.{split_of_involutions, block-ext, column_kept, stays_low, reduced_count}
+use Rattle.bm_factor.proofs.SplitLemmas.{split_of_involutions, block-ext, column_kept, stays_low, reduced_count}
 use Rattle.bm_factor.proofs.factoring.reduced.Goals as goal
 
 pub returns-clause-split : goal.returns-clause-split
@@ -13,7 +13,8 @@ returns-clause-split c =
     split_of_involutions c.args.a.now c.trailer-t.result c.reducer-r.result c.mul-with_block.result c.mul.result c.mul-2.result
     c.requires.nonsingular t.size (r.size ∙ c.mul-with_block.ensures.size) c.mul-with_block.ensures.size
     (c.mul.ensures.size ∙ c.mul-with_block.ensures.size) (c.mul-2.ensures.size ∙ r.size ∙ c.mul-with_block.ensures.size)
-    c.trailer-t.ensures.inverse c.reducer-r.ensures.inverse c.mul-with_block.ensures.composes c.mul.ensures.composes c.mul-2.ensures.composes
+    c.trailer-t.ensures.inverse c.reducer-r.ensures.inverse c.mul-with_block.ensures.composes c.mul.ensures.composes
+    c.mul-2.ensures.composes
 
 pub returns-clause-stays : goal.returns-clause-stays
 returns-clause-stays c =
@@ -21,7 +22,8 @@ returns-clause-stays c =
     let r = c.reducer-r.ensures.reducer in
     let m : ℕ = c.args.shape.now.m in
     let tn : m ≤ c.trailer-t.result.n = omega (arith, t.size, c.args.shape.now.keeps.memory, c.requires.size) in
-    let rn : m ≤ c.reducer-r.result.n = omega (arith, r.size, c.mul-with_block.ensures.size, c.args.shape.now.keeps.memory, c.requires.size) in
+    let rn : m ≤ c.reducer-r.result.n = omega
+    (arith, r.size, c.mul-with_block.ensures.size, c.args.shape.now.keeps.memory, c.requires.size) in
     λ x h.
     let same : image c.trailer-t.result x ≡ x = unchanged_low c.trailer-t.result m x tn t.kept h in
     subst (λ (v : ℕ). v < 2 ^ m) (sym (c.mul-2.ensures.composes x ∙ ap (image c.reducer-r.result) same))

@@ -6,7 +6,8 @@ use Rattle.bm_factor.proofs.factoring.several_passes.Goals as goal
 
 pub loop-round-init : goal.loop-round-init
 loop-round-init c = (
-  factoring_none c.args.shape.now c.args.map.now.a c.reduced.result.rest c.reduced.result.done c.rank_of-rank.result c.empty-plan.result.forms
+  factoring_none c.args.shape.now c.args.map.now.a c.reduced.result.rest c.reduced.result.done c.rank_of-rank.result
+      c.empty-plan.result.forms
       c.requires.size c.empty-plan.ensures.none c.reduced.ensures.split c.reduced.ensures.stays c.reduced.ensures.trailing
       (c.reduced.ensures.count ∙ sym (c.rank_of-rank.ensures.rank
       ∙ (let first = c.m.ensures in let second = c.m-2.ensures in rw (first, second) refl))),
@@ -18,7 +19,8 @@ erased-next-requires-clause-trailing c = rw c.loop-round.invariant.0.size_rest c
 
 pub form_of-requires-clause-mld : goal.form_of-requires-clause-mld
 form_of-requires-clause-mld c =
-    round_mld c.args.shape.now c.args.map.now.a c.loop-round.rest c.loop-round.done c.erased-next.result.rest c.erased-next.result.done c.mul-a.result
+    round_mld c.args.shape.now c.args.map.now.a c.loop-round.rest c.loop-round.done c.erased-next.result.rest c.erased-next.result.done
+    c.mul-a.result
     c.rank_of-rank.result c.loop-round._round c.loop-round.plan.forms c.loop-round.invariant.0 c.erased-next.ensures.split
     c.erased-next.ensures.covered c.mul-a.ensures.size c.mul-a.ensures.composes
 
@@ -37,7 +39,8 @@ loop-round-preserved c = (
 pub form_of-requires-2-clause-mld : goal.form_of-requires-2-clause-mld
 form_of-requires-2-clause-mld c =
     let e : c.loop-round._round ≡ div_ceil c.rank_of-rank.result (c.args.shape.now.m - c.args.shape.now.b) =
-    rounds_done c.loop-round._round c.div_ceil-rounds.result c.rank_of-rank.result c.m-3.result c.b.result c.args.shape.now.m c.args.shape.now.b
+    rounds_done c.loop-round._round c.div_ceil-rounds.result c.rank_of-rank.result c.m-3.result c.b.result c.args.shape.now.m
+    c.args.shape.now.b
     (omega arith) c.div_ceil-rounds.ensures c.m-3.ensures c.b.ensures in
     rest_mld c.args.shape.now c.args.map.now.a c.loop-round.rest c.loop-round.done c.rank_of-rank.result c.loop-round._round
     c.loop-round.plan.forms c.loop-round.invariant.0 e
@@ -45,7 +48,8 @@ form_of-requires-2-clause-mld c =
 pub returns-clause-stands : goal.returns-clause-stands
 returns-clause-stands c =
     let e : c.loop-round._round ≡ div_ceil c.rank_of-rank.result (c.args.shape.now.m - c.args.shape.now.b) =
-    rounds_done c.loop-round._round c.div_ceil-rounds.result c.rank_of-rank.result c.m-3.result c.b.result c.args.shape.now.m c.args.shape.now.b
+    rounds_done c.loop-round._round c.div_ceil-rounds.result c.rank_of-rank.result c.m-3.result c.b.result c.args.shape.now.m
+    c.args.shape.now.b
     (omega arith) c.div_ceil-rounds.ensures c.m-3.ensures c.b.ensures in
     record {
       shape = c.push_form-2.ensures.shape ∙ c.loop-round.invariant.1;

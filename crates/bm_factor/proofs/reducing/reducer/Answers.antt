@@ -6,7 +6,8 @@ use Rattle.bm_rank.proofs.RankLemmas.{ranked_none, ranked_turn, length-cut}
 use Rattle.bm_forms.proofs.MldLemmas.{nonsingular_of_involution}
 use Rattle.bm_factor.specs.Reducer.{IsReducer}
 use Rattle.bm_factor.proofs.InsertLemmas.{cut_below, insert_same}
-use Rattle.bm_factor.proofs.ReducerLemmas.{IsReducing, reducing_none, few_kept, turn_fresh, turn_known, turn_below, reducing_all, reducing_inverse}
+use Rattle.bm_factor.proofs.ReducerLemmas.{IsReducing, reducing_none, few_kept}
+use Rattle.bm_factor.proofs.ReducerTurnLemmas.{turn_fresh, turn_known, turn_below, reducing_all, reducing_inverse}
 use Rattle.bm_factor.proofs.reducing.reducer.Goals as goal
 
 pub loop-j-init : goal.loop-j-init
@@ -53,9 +54,11 @@ loop-j-preserved-then-insert c =
     let long : c.m-m.result ≤ length a.cols = omega (arith, a.few) in
     let kept2 : c.insert.new.self.kept ≡ c.loop-j.found.kept ++ (slice_index a.cols c.from.result / 2 ^ c.m-m.result) ∷ [] =
     rw c.if-insert.true at c.insert.ensures.kept in (
-      turn_fresh a c.loop-j.r c.m-m.result c.loop-j.j c.loop-j.found.kept c.insert.new.self.kept c.loop-j.pivots c.from.result c.loop-j.count
+      turn_fresh a c.loop-j.r c.m-m.result c.loop-j.j c.loop-j.found.kept c.insert.new.self.kept c.loop-j.pivots c.from.result
+          c.loop-j.count
           c.from-then-insert.result c.insert.result c.loop-j.invariant.0 (omega arith) (omega arith) mn c.from.ensures
-          c.insert.ensures.fresh c.insert.ensures.kept c.if-insert.true c.loop-j.invariant.3 c.from-then-insert.ensures c.loop-j.invariant.4,
+          c.insert.ensures.fresh c.insert.ensures.kept c.if-insert.true c.loop-j.invariant.3 c.from-then-insert.ensures
+          c.loop-j.invariant.4,
       rw c.if-insert.true at (ranked_turn a.cols c.m-m.result c.m-m.result c.loop-j.j long (omega arith) (omega arith) c.loop-j.found.kept
           c.insert.new.self.kept c.loop-j.count c.insert.result c.loop-j.invariant.1 _ c.from.ensures c.insert.ensures.fresh
           c.insert.ensures.kept),
@@ -84,7 +87,8 @@ pub with_column-r-requires-clause-below : goal.with_column-r-requires-clause-bel
 with_column-r-requires-clause-below c =
     let a = c.args.a.now in
     let mn : c.m-m.result ≤ a.n = omega (arith, c.m-m.ensures, c.args.shape.now.keeps.memory, c.requires.size) in
-    turn_below a c.loop-j.r c.m-m.result c.loop-j.j c.loop-j.found.kept c.loop-j.pivots c.loop-j.count c.unwrap-set.result c.sum_of_columns.result
+    turn_below a c.loop-j.r c.m-m.result c.loop-j.j c.loop-j.found.kept c.loop-j.pivots c.loop-j.count c.unwrap-set.result
+    c.sum_of_columns.result
     c.loop-j.invariant.0 (omega arith) (omega arith) mn c.loop-j.invariant.3 c.sum_of_columns.ensures.value
 
 pub loop-j-preserved : goal.loop-j-preserved

@@ -1,7 +1,8 @@
 use Rattle.std.proofs.Common.{ℕ, ◌≡◌, ◌<◌, ◌≤◌, ◌∙◌, subst, arith}
 use Rattle.bm_forms.proofs.MldLemmas.{nonsingular_of_involution}
 use Rattle.bm_factor.specs.Swapper.{IsSwapper}
-use Rattle.bm_factor.proofs.SwapperLemmas.{swapping_none, swapping_all, swapper_inverse, turn_kept, turn_none, turn_exchanged}
+use Rattle.bm_factor.proofs.SwapperLemmas.{swapping_none, swapping_all, swapper_inverse}
+use Rattle.bm_factor.proofs.SwapperTurnLemmas.{turn_kept, turn_none, turn_exchanged}
 use Rattle.bm_factor.proofs.swapping.swapper.Goals as goal
 
 pub loop-i-init : goal.loop-i-init
@@ -17,7 +18,8 @@ pub loop-i-preserved-then-k-i : goal.loop-i-preserved-then-k-i
 loop-i-preserved-then-k-i c =
     let w = c.loop-i.invariant.0 in
     let mn : c.m-m.result ≤ c.args.a.now.n = omega (arith, c.m-m.ensures, c.args.shape.now.keeps.memory, c.requires.size) in (
-      turn_exchanged c.args.a.now c.loop-i.s c.swap_columns.new.self c.m-m.result c.loop-i.next c.loop-i.i c.from.result c.next_nonzero-k.result
+      turn_exchanged c.args.a.now c.loop-i.s c.swap_columns.new.self c.m-m.result c.loop-i.next c.loop-i.i c.from.result
+          c.next_nonzero-k.result
           w (omega arith) mn c.from.ensures c.if-a-from-eq0.true (c.next_nonzero-k.ensures.from c.if-k-i.true) c.if-k-i.true
           (c.next_nonzero-k.ensures.nonzero c.if-k-i.true) c.next_nonzero-k.ensures.zeros c.swap_columns.ensures.size
           c.swap_columns.ensures.first c.swap_columns.ensures.second c.swap_columns.ensures.others,
