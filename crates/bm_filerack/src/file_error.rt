@@ -1,4 +1,6 @@
 //! Why a call on files did not go its way.
+ghost use Rattle.std.specs.Prelude.{◌≡◌, ◌≢◌};
+ghost use Rattle.std.specs.IoError.{error_kind};
 
 use std::alloc::AllocError;
 use std::io;
@@ -14,12 +16,22 @@ pub enum FileError {
 }
 
 impl From<AllocError> for FileError {
+    ghost use Rattle.bm_filerack.specs.declared.file_error.FileError.TheVariants.{OutOfMemory};
+
+    ghost from_gives = { λ _ made. made ≡ OutOfMemory };
+
     fn from(_: AllocError) -> FileError {
         FileError::OutOfMemory
     }
 }
 
 impl From<io::Error> for FileError {
+    ghost use Rattle.bm_filerack.specs.declared.file_error.FileError.TheVariants.{Failed, OutOfMemory};
+    ghost use Rattle.std.specs.declared.io.ErrorKind.TheVariants as kind;
+
+    ghost from_gives = { λ error made. (error_kind error ≡ kind.OutOfMemory → made ≡ OutOfMemory)
+        × (error_kind error ≢ kind.OutOfMemory → made ≡ Failed) };
+
     fn from(error: io::Error) -> FileError {
         if error.kind() == ErrorKind::OutOfMemory {
             FileError::OutOfMemory

@@ -28,7 +28,9 @@ pub struct Folder<'a, F: Files> {
 
 impl<'a, F: Files> Folder<'a, F> {
     /// The files whose paths begin so.
-    pub fn new(rt: &'a F, alloc: Global, prefix: String) -> Folder<'a, F> {
+    pub fn new(rt: &'a F, alloc: Global, prefix: String) -> Folder<'a, F>
+        ensures prefix { result.prefix ≡ prefix }
+    {
         Folder { rt, alloc, prefix }
     }
 

@@ -1,6 +1,10 @@
 //! The program: it takes its words and streams, makes the call that does all, and ends with its status.
 #![tactic(auto)]
 
+ghost use Rattle.std.specs.Prelude.{◌≡◌, ◌≢◌, Err, IfOk};
+ghost use Rattle.std.specs.IoError.{error_kind};
+ghost use Rattle.bm_top.specs.Status.{code_of};
+
 mod streams;
 
 use bm_filerack::{StdSink, StdSource};
@@ -13,6 +17,7 @@ use std::{env, io};
 use streams::has_standard_streams;
 
 /// What ends the program before the call.
+#[derive(Clone, Copy, Debug, PartialEq, Eq)]
 enum StartError {
     /// Memory for the words was refused.
     OutOfMemory,
@@ -21,6 +26,12 @@ enum StartError {
 }
 
 impl From<io::Error> for StartError {
+    ghost use Rattle.bmmc.specs.declared.StartError.TheVariants.{OutOfMemory, Unavailable};
+    ghost use Rattle.std.specs.declared.io.ErrorKind.TheVariants as kind;
+
+    ghost from_gives = { λ error made. (error_kind error ≡ kind.OutOfMemory → made ≡ OutOfMemory)
+        × (error_kind error ≢ kind.OutOfMemory → made ≡ Unavailable) };
+
     fn from(error: io::Error) -> StartError {
         if error.kind() == ErrorKind::OutOfMemory {
             StartError::OutOfMemory
@@ -31,6 +42,10 @@ impl From<io::Error> for StartError {
 }
 
 impl From<AllocError> for StartError {
+    ghost use Rattle.bmmc.specs.declared.StartError.TheVariants.{OutOfMemory};
+
+    ghost from_gives = { λ _ made. made ≡ OutOfMemory };
+
     fn from(_: AllocError) -> StartError {
         StartError::OutOfMemory
     }
@@ -58,10 +73,19 @@ fn run(rt: &HostRuntime) -> Result<Status, StartError> {
     ))
 }
 
-fn main(rt: HostRuntime) -> ExitCode {
-    match run(&rt) {
-        Ok(status) => ExitCode::from(status.code()),
-        Err(StartError::OutOfMemory) => ExitCode::from(1),
-        Err(StartError::Unavailable) => ExitCode::from(26),
+/// The exit status of the program.
+fn exit_status(end: &Result<Status, StartError>) -> u8
+    ensures called { IfOk end.now (λ status. result ≡ code_of status) }
+    ensures memory { end.now ≡ Err StartError.OutOfMemory → result ≡ 1 }
+    ensures unavailable { end.now ≡ Err StartError.Unavailable → result ≡ 26 }
+{
+    match end {
+        Ok(status) => status.code(),
+        Err(StartError::OutOfMemory) => 1,
+        Err(StartError::Unavailable) => 26,
     }
+}
+
+fn main(rt: HostRuntime) -> ExitCode {
+    ExitCode::from(exit_status(&run(&rt)))
 }
