@@ -1,0 +1,5 @@
+pub mod KeyLemmas
+pub mod KindLemmas
+pub mod NumberLemmas
+pub mod StopLemmas
+pub mod NamedLemmas

@@ -1,0 +1,6 @@
+use Rattle.bm_jobfile.specs.Fields.{is_any}
+use Rattle.bm_jobfile.proofs.NumberLemmas.{HasRead}
+use Rattle.bm_jobfile.proofs.number_lists.words_of.Given as goal
+
+abbrev pub invariant-loop-value : goal.invariant-loop-value
+invariant-loop-value l = HasRead is_any l.values l.value-index l.list.items

@@ -1,0 +1,10 @@
+pub mod Fields
+pub mod ShapeTable
+pub mod Kinds
+pub mod Keys
+pub mod MapTable
+pub mod DrillTable
+pub mod RunTable
+pub mod JobText
+pub mod MapJob
+pub mod JobFile

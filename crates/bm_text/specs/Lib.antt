@@ -1,0 +1,8 @@
+pub mod Line
+pub mod ReportText
+pub mod StatusText
+pub mod DrillText
+pub mod JobText
+pub mod MldTest
+pub mod StepCost
+pub mod PlanText
