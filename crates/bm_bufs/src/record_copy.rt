@@ -22,7 +22,19 @@ fn copy_record(to: &mut [u8], i: usize, from: &[u8], j: usize, width: usize)
     to[at..at + width].copy_from_slice(&from[start..start + width]);
 }
 
-// The same for a width that is known beforehand.
+// Record j of a list, as an array.
+fn record_array<const W: usize>(from: &[u8], j: usize) -> [u8; W]
+    requires { (j + 1) * W ≤ length from.now }
+    ensures { result ≡ slice_chunk from.now W j }
+{
+    let start = j * W;
+    let mut record = [0; W];
+    record.copy_from_slice(&from[start..start + W]);
+    record
+}
+
+// The same for a width that is known beforehand. The record goes through an array of its own, so
+// that the copy into it and the one out of it need no test for lists that overlap.
 #[tactic(auto, using(bm_base::proofs::ChunkLemmas::chunk_other))]
 fn copy_record_w<const W: usize>(to: &mut [u8], i: usize, from: &[u8], j: usize)
     requires to { (i + 1) * W ≤ length to.old }
@@ -32,8 +44,8 @@ fn copy_record_w<const W: usize>(to: &mut [u8], i: usize, from: &[u8], j: usize)
     ensures size { length to.new ≡ length to.old }
 {
     let at = i * W;
-    let start = j * W;
-    to[at..at + W].copy_from_slice(&from[start..start + W]);
+    let record = record_array::<W>(from, j);
+    to[at..at + W].copy_from_slice(&record);
 }
 
 /// Copies record r of the row, for each r below `count`, to the place of number `first + r`.

@@ -1,0 +1,46 @@
+//! The maps that records are moved by.
+
+ghost use Rattle.std.specs.Prelude.{◌≡◌, ◌^◌, ◌<◌, ◌≤◌};
+ghost use Rattle.bm_gf2.specs.Matrix.{IsNonsingular};
+
+use bm_gf2::Affine;
+use bm_named::{bit_reversal, gray, identity, transpose};
+use std::fmt;
+
+/// A map that `bm_named` makes for any size.
+#[derive(Clone, Copy, Debug, PartialEq, Eq)]
+pub enum MapName {
+    Identity,
+    Gray,
+    /// Of as many rows as columns, or half as many.
+    Transpose,
+    BitReversal,
+}
+
+impl MapName {
+    /// The map of this name for addresses of n bits, 1 to 52.
+    pub fn map(self, n: u8) -> Affine
+        requires some { 1 ≤ n }
+        requires few { n ≤ 52 }
+        ensures size { result.a.n ≡ n }
+        ensures nonsingular { IsNonsingular result.a }
+    {
+        match self {
+            MapName::Identity => identity(n),
+            MapName::Gray => gray(n),
+            MapName::Transpose => transpose(n, n / 2),
+            MapName::BitReversal => bit_reversal(n),
+        }
+    }
+}
+
+impl fmt::Display for MapName {
+    fn fmt<W: fmt::Write>(&self, f: &mut fmt::Formatter<W>) -> fmt::Result {
+        f.write_str(match self {
+            MapName::Identity => "identity",
+            MapName::Gray => "gray",
+            MapName::Transpose => "transpose",
+            MapName::BitReversal => "bit-reversal",
+        })
+    }
+}
