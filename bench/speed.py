@@ -21,7 +21,8 @@ LOAD_BYTES = 1 << 26
 def build():
     """Proves and builds the one program, and compiles the other."""
     crate = os.path.join(TOP, "crates", "bm_speed")
-    subprocess.run(["rt", "run"], cwd=crate, check=True, stdin=subprocess.DEVNULL, capture_output=True)
+    quiet = {"stdin": subprocess.DEVNULL, "capture_output": True}
+    subprocess.run(["rt", "run"], cwd=crate, check=True, **quiet)
     os.makedirs(os.path.dirname(LOOPS), exist_ok=True)
     source = os.path.join(TOP, "bench", "loops.rs")
     subprocess.run(["rustc", "-O", "--edition", "2021", "-o", LOOPS, source], check=True)
