@@ -11,11 +11,12 @@ abbrev pub is_named : List (List ℕ) → String Global → Bool
 is_named names key = is_one_of names (string_bytes key)
 
 -- a test of the members is one of the keys
-pub has_only-keys : (names : List (List ℕ)) (es : List (String Global × Value)) → has_only names (members_view es) ≡ list_all (is_named names) (keys_of es)
+pub has_only-keys : (names : List (List ℕ)) (es : List (String Global × Value))
+    → has_only names (members_view es) ≡ list_all (is_named names) (keys_of es)
 has_only-keys names [] = refl
 has_only-keys names (e ∷ es) = ap (λ b. is_one_of names (string_bytes e.0) && b) (has_only-keys names es)
 
 -- one key more
-pub one_key : (names : List (List ℕ)) (key : String Global) (keys : List (String Global)) (b whole : Bool) → whole ≡ list_all (is_named names) (key ∷ keys)
-    → is_one_of names (string_bytes key) ≡ b → whole ≡ (b && list_all (is_named names) keys)
+pub one_key : (names : List (List ℕ)) (key : String Global) (keys : List (String Global)) (b whole : Bool)
+    → whole ≡ list_all (is_named names) (key ∷ keys) → is_one_of names (string_bytes key) ≡ b → whole ≡ (b && list_all (is_named names) keys)
 one_key names key keys b whole left named = left ∙ ap (λ v. v && list_all (is_named names) keys) named

@@ -1,5 +1,6 @@
 -- Named maps: what the rows of a matrix make of an address, and a complement that is taken back.
-use Rattle.std.proofs.Common.{◌≡◌, ℕ, ◌*◌, ◌+◌, ◌-◌, ◌^◌, ◌<◌, List, slice_index, bit_xor, sym, ap, subst, ◌∙◌, arith, Result, Ok, Err, IfOk, OnOk}
+use Rattle.std.proofs.Common.{◌≡◌, ℕ, ◌*◌, ◌+◌, ◌-◌, ◌^◌, ◌<◌, List, slice_index, bit_xor}
+use Rattle.std.proofs.Common.{sym, ap, subst, ◌∙◌, arith, Result, Ok, Err, IfOk, OnOk}
 use Rattle.std.specs.Int.{bit_at}
 use Rattle.std.proofs.lemmas.Nat.{pow_pos}
 use Rattle.std.proofs.lemmas.Nat.Bits.{bit_at-zero, same_from_bits_below}
@@ -14,7 +15,8 @@ use Rattle.bm_named.specs.declared.map_fault.MapFault.TheVariants.{Width, Side, 
 use Rattle.bm_named.specs.RowList.{AreRows, SendToZero, RowsFaultIs}
 use Rattle.bm_named.proofs.ImageLemmas.{image-row}
 use Rattle.bm_jobfile.specs.declared.map_table.NamedMap.{NamedMap}
-use Rattle.bm_jobfile.specs.declared.map_table.NamedMap.TheVariants.{Identity, Reversal, BitReversal, Transpose, Gray, InverseGray, Rotation, Bits, Rows}
+use Rattle.bm_jobfile.specs.declared.map_table.NamedMap.TheVariants.{Identity, Reversal, BitReversal, Transpose}
+use Rattle.bm_jobfile.specs.declared.map_table.NamedMap.TheVariants.{Gray, InverseGray, Rotation, Bits, Rows}
 use Rattle.bm_jobfile.specs.MapJob.{IsNamedMap, NamedIsFaultless}
 
 -- two functions of the same values are both the named map
@@ -77,11 +79,13 @@ pub rows_named : (n : ℕ) (named : NamedMap) (rows : List ℕ) (found : Result 
 rows_named n named rows (Err e) is size entries constant = tt
 rows_named n named rows (Ok map) is size entries constant =
     subst (λ (m : NamedMap). IsNamedMap n m (affine_image map)) (sym is)
-    (subst (λ (k : ℕ). HasEntries k rows map → IsNamedMap k (Rows rows) (affine_image map)) size (λ e. rows_value map rows e constant) entries)
+    (subst (λ (k : ℕ). HasEntries k rows map → IsNamedMap k (Rows rows) (affine_image map)) size
+    (λ e. rows_value map rows e constant) entries)
 
 -- and the rows have no fault
 pub rows_named_faultless : (n : ℕ) (named : NamedMap) (rows : List ℕ) (found : Result Affine MapFault) → named ≡ Rows rows
-    → IfOk found (λ map. map.a.n ≡ n) → IfOk found (HasEntries n rows) → IfOk found (λ map. IsNonsingular map.a) → OnOk found (AreRows n rows)
+    → IfOk found (λ map. map.a.n ≡ n) → IfOk found (HasEntries n rows) → IfOk found (λ map. IsNonsingular map.a)
+    → OnOk found (AreRows n rows)
     → OnOk found (NamedIsFaultless n named)
 rows_named_faultless n named rows (Err e) is size entries nonsingular valid = tt
 rows_named_faultless n named rows (Ok map) is size entries nonsingular valid =

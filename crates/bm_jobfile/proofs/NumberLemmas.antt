@@ -1,5 +1,6 @@
 -- Numbers that are read from the items of an array, one after another.
-use Rattle.std.proofs.Common.{◌≡◌, ℕ, ◌+◌, ◌<◌, ◌≤◌, Bool, List, [], ◌∷◌, ◌++◌, length, drop, get_or, Option, Some, None, option_map, refl, sym, ap, ◌∙◌, append_assoc}
+use Rattle.std.proofs.Common.{◌≡◌, ℕ, ◌+◌, ◌<◌, ◌≤◌, Bool, List, [], ◌∷◌, ◌++◌, length, drop, get_or}
+use Rattle.std.proofs.Common.{Option, Some, None, option_map, refl, sym, ap, ◌∙◌, append_assoc}
 use Rattle.std.proofs.lemmas.List.{drop_all, append-nil}
 use Rattle.toml.specs.View.{view, items_view}
 use Rattle.toml.specs.declared.value.Value.{Value}
@@ -18,7 +19,8 @@ numbers_from fits values i = numbers_of fits (items_view (drop i values))
 pub record HasRead (fits : ℕ → Bool) (values : List Value) (i : ℕ) (read : List ℕ) : Type 0 where
   pub whole : numbers_of fits (items_view values) ≡ followed_by read (numbers_from fits values i)
 
-followed-push : (read : List ℕ) (n : ℕ) (rest : Option (List ℕ)) → followed_by read (with_number (Some n) rest) ≡ followed_by (read ++ n ∷ []) rest
+followed-push : (read : List ℕ) (n : ℕ) (rest : Option (List ℕ))
+    → followed_by read (with_number (Some n) rest) ≡ followed_by (read ++ n ∷ []) rest
 followed-push read n None = refl
 followed-push read n (Some ns) = ap Some (sym (append_assoc read (n ∷ []) ns))
 
@@ -37,8 +39,8 @@ one_value fits values i v inside is =
     ∙ ap (λ (w : Value). with_number (number_of fits (view w)) (numbers_from fits values (i + 1))) (sym is)
 
 -- one number more is read
-pub read_more : (fits : ℕ → Bool) (values : List Value) (i : ℕ) (read : List ℕ) (v : Value) (n : ℕ) → HasRead fits values i read → i < length values
-    → v ≡ get_or values i v → number_of fits (view v) ≡ Some n → HasRead fits values (i + 1) (read ++ n ∷ [])
+pub read_more : (fits : ℕ → Bool) (values : List Value) (i : ℕ) (read : List ℕ) (v : Value) (n : ℕ) → HasRead fits values i read
+    → i < length values → v ≡ get_or values i v → number_of fits (view v) ≡ Some n → HasRead fits values (i + 1) (read ++ n ∷ [])
 read_more fits values i read v n far inside is number = record {
   whole =
       far.whole ∙ ap (followed_by read) (one_value fits values i v inside is
@@ -47,8 +49,8 @@ read_more fits values i read v n far inside is number = record {
 }
 
 -- a value that is no such number spoils the whole
-pub read_fault : (fits : ℕ → Bool) (values : List Value) (i : ℕ) (read : List ℕ) (v : Value) → HasRead fits values i read → i < length values
-    → v ≡ get_or values i v → number_of fits (view v) ≡ None → None ≡ numbers_of fits (items_view values)
+pub read_fault : (fits : ℕ → Bool) (values : List Value) (i : ℕ) (read : List ℕ) (v : Value) → HasRead fits values i read
+    → i < length values → v ≡ get_or values i v → number_of fits (view v) ≡ None → None ≡ numbers_of fits (items_view values)
 read_fault fits values i read v far inside is number =
     sym (far.whole ∙ ap (followed_by read) (one_value fits values i v inside is
     ∙ ap (λ (o : Option ℕ). with_number o (numbers_from fits values (i + 1))) number))

@@ -48,10 +48,15 @@ optional_table name None = Ok None
 optional_table name (Some (table members)) = Ok (Some members)
 optional_table name (Some _) = Err name
 
--- an array
-abbrev pub items_in : FieldName → Data → Result Items FieldName
-items_in name (array items) = Ok items
-items_in name _ = Err name
+-- the items of an array
+abbrev pub items_of : FieldName → Data → Result Items FieldName
+items_of name (array items) = Ok items
+items_of name _ = Err name
+
+-- an array has to stand
+abbrev pub items_in : FieldName → Option Data → Result Items FieldName
+items_in name (Some d) = items_of name d
+items_in name None = Err name
 
 -- one number more in front
 abbrev pub with_number : Option ℕ → Option (List ℕ) → Option (List ℕ)
@@ -70,8 +75,7 @@ or_fault name None = Err name
 
 -- an array of such numbers has to stand
 abbrev pub list_in : FieldName → (ℕ → Bool) → Option Data → Result (List ℕ) FieldName
-list_in name fits (Some (array items)) = or_fault name (numbers_of fits items)
-list_in name fits _ = Err name
+list_in name fits found = items_in name found >>= λ items. or_fault name (numbers_of fits items)
 
 -- a result as a view shows it
 abbrev pub seen_by : {X Y : Type 0} → (X → Y) → Result X FieldName → Result Y FieldName

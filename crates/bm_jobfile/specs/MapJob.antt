@@ -14,7 +14,8 @@ use Rattle.bm_named.specs.declared.map_fault.MapFault.TheVariants as fault
 use Rattle.bm_forms.specs.declared.job.Job.{Job}
 use Rattle.bm_forms.specs.declared.job.Job.TheVariants as job
 use Rattle.bm_jobfile.specs.declared.map_table.NamedMap.{NamedMap}
-use Rattle.bm_jobfile.specs.declared.map_table.NamedMap.TheVariants.{Identity, Reversal, BitReversal, Transpose, Gray, InverseGray, Rotation, Bits, Rows}
+use Rattle.bm_jobfile.specs.declared.map_table.NamedMap.TheVariants.{Identity, Reversal, BitReversal, Transpose}
+use Rattle.bm_jobfile.specs.declared.map_table.NamedMap.TheVariants.{Gray, InverseGray, Rotation, Bits, Rows}
 use Rattle.bm_jobfile.specs.declared.map_table.MapText.{MapText}
 use Rattle.bm_jobfile.specs.declared.map_table.MapText.TheVariants.{Permute, Walsh}
 
@@ -67,4 +68,4 @@ abbrev pub IsJobOf : Shape → MapText → Job → Type 0
 IsJobOf s (Permute named complement) (job.Permute map) = IsPermuteOf s.n named complement map
 IsJobOf s (Permute named complement) job.Walsh = ⊥
 IsJobOf s Walsh (job.Permute map) = ⊥
-IsJobOf s Walsh job.Walsh = Unit {0}
+IsJobOf s Walsh job.Walsh = s.width ≡ 8

@@ -1,5 +1,5 @@
 -- What the table `map` says.
-use Rattle.std.specs.Prelude.{codes, Result, Ok}
+use Rattle.std.specs.Prelude.{codes, ℕ, List, Result, Ok}
 use Rattle.std.specs.declared.option.Option.{Option}
 use Rattle.std.specs.declared.option.Option.TheVariants.{Some, None}
 use Rattle.toml.specs.Data.{Members, get_member}
@@ -13,6 +13,13 @@ use Rattle.bm_jobfile.specs.declared.map_table.MapText.{MapText}
 use Rattle.bm_jobfile.specs.declared.map_table.MapText.TheVariants.{Permute, Walsh}
 use Rattle.bm_jobfile.specs.Fields.{◌>>=◌, is_byte, is_any, number_in, list_in, count_or}
 
+-- the source bits, and the rows
+abbrev pub bits_in : Members → Result (List ℕ) FieldName
+bits_in map = list_in field.Bits is_byte (get_member (codes "bits") map)
+
+abbrev pub rows_in : Members → Result (List ℕ) FieldName
+rows_in map = list_in field.Rows is_any (get_member (codes "rows") map)
+
 -- the map of addresses that a table of this kind names, and none for the transform
 abbrev pub named_in : Kind → Members → Result (Option NamedMap) FieldName
 named_in kind.Identity map = Ok (Some named.Identity)
@@ -22,8 +29,8 @@ named_in kind.Transpose map = number_in field.P is_byte (get_member (codes "p") 
 named_in kind.Gray map = Ok (Some named.Gray)
 named_in kind.InverseGray map = Ok (Some named.InverseGray)
 named_in kind.Rotation map = number_in field.By is_byte (get_member (codes "by") map) >>= λ by. Ok (Some (named.Rotation by))
-named_in kind.Bits map = list_in field.Bits is_byte (get_member (codes "bits") map) >>= λ list. Ok (Some (named.Bits list))
-named_in kind.Rows map = list_in field.Rows is_any (get_member (codes "rows") map) >>= λ rows. Ok (Some (named.Rows rows))
+named_in kind.Bits map = bits_in map >>= λ list. Ok (Some (named.Bits list))
+named_in kind.Rows map = rows_in map >>= λ rows. Ok (Some (named.Rows rows))
 named_in kind.Walsh map = Ok None
 
 -- a map of addresses with the complement, or the transform, which has none

@@ -1,6 +1,6 @@
 //! The table of the drill.
 
-ghost use Rattle.std.specs.Prelude.{◌≡◌, ◌<◌, codes, IfOk, IsErrOf, Ok, Err, option_map};
+ghost use Rattle.std.specs.Prelude.{◌≡◌, ◌/◌, ◌≤◌, codes, length, IfOk, IsErrOf, Ok, Err, option_map};
 ghost use Rattle.bm_base.specs.declared.field_name.FieldName.{FieldName};
 ghost use Rattle.toml.specs.Data.{get_member};
 ghost use Rattle.toml.specs.View.{view, table_view};
@@ -35,6 +35,7 @@ pub fn stops_in(alloc: Global, drill: Option<&Table>) -> Result<Stops, FieldErro
     ensures faulty { (which : FieldName) → IsErrOf result (FieldError.Faulty which)
         → stops_in (get_member (codes "stops")
         (optional_members (option_map (λ t. table_view t.now) drill.entry))) ≡ Err which }
+    ensures few { IfOk result (λ stops. length stops ≤ 64) }
 {
     let Some(table) = drill else {
         return Ok(Stops::of(Vec::new(alloc)));
@@ -50,25 +51,23 @@ fn stops_of(alloc: Global, value: &Value) -> Result<Stops, FieldError>
     ensures ok { IfOk result (λ stops. stops_of (view value.now) ≡ Ok stops) }
     ensures faulty { (which : FieldName) → IsErrOf result (FieldError.Faulty which)
         → stops_of (view value.now) ≡ Err which }
+    ensures few { IfOk result (λ stops. length stops ≤ 64) }
 {
     let values = array_of(value, FieldName::Stops)?;
     let Some(numbers) = words_of(alloc, values)? else {
-        return Err(FieldError::Faulty {
-            which: FieldName::Stops,
-        });
+        return Err(FieldError::from(FieldName::Stops));
     };
     let numbers = numbers.as_slice();
     if numbers.len() > MOST_STOP_NUMBERS || numbers.len() % 2 != 0 {
-        return Err(FieldError::Faulty {
-            which: FieldName::Stops,
-        });
+        return Err(FieldError::from(FieldName::Stops));
     }
     Ok(paired(alloc, numbers)?)
 }
 
 // A stop for each two numbers: after how many calls, and which image.
 fn paired(alloc: Global, numbers: &[u64]) -> Result<Stops, AllocError>
-    ensures { IfOk result (λ stops. stops ≡ pairs_of numbers.now) }
+    ensures stops { IfOk result (λ stops. stops ≡ pairs_of numbers.now) }
+    ensures few { IfOk result (λ stops. length stops ≤ length numbers.now / 2) }
 {
     let mut list = Vec::new(alloc);
     for k in 0..numbers.len() / 2 {

@@ -4,7 +4,8 @@ ghost use Rattle.std.specs.Prelude.{◌≡◌, Result, Option, option_map};
 ghost use Rattle.bm_base.specs.declared.field_name.FieldName.{FieldName};
 ghost use Rattle.toml.specs.Data.{get_member, Members};
 ghost use Rattle.toml.specs.View.{view, array_view, table_view};
-ghost use Rattle.bm_jobfile.specs.Fields.{is_byte, is_width, is_any, number_of, number_in, count_or, items_in, table_in, optional_table, seen_by};
+ghost use Rattle.bm_jobfile.specs.Fields.{is_byte, is_width, is_any, number_of, number_in};
+ghost use Rattle.bm_jobfile.specs.Fields.{count_or, items_of, items_in, table_in, optional_table, seen_by};
 
 use bm_base::FieldName;
 use std::alloc::AllocError;
@@ -131,10 +132,25 @@ pub fn optional_field<'a>(
 
 /// The values of an array.
 pub fn array_of<'a>(value: &'a Value, name: FieldName) -> Result<&'a Vec<Value>, FieldName>
-    ensures { seen_by (λ a. array_view a.now) result ≡ items_in name (view value.now) }
+    ensures { seen_by (λ a. array_view a.now) result ≡ items_of name (view value.now) }
 {
     match value.as_array() {
         Some(found) => Ok(found),
+        None => Err(name),
+    }
+}
+
+/// The values of an array that has to stand.
+pub fn array_field<'a>(
+    table: &'a Table,
+    key: &str,
+    name: FieldName,
+) -> Result<&'a Vec<Value>, FieldName>
+    ensures { seen_by (λ a. array_view a.now) result
+        ≡ items_in name (get_member key.now (table_view table.now)) }
+{
+    match value_at(table, key) {
+        Some(value) => array_of(value, name),
         None => Err(name),
     }
 }

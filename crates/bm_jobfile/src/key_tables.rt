@@ -92,13 +92,14 @@ fn is_key_of_map(kind: Kind, key: &str) -> bool
     }
 }
 
+// Tests that the key is one that a map of each kind has, but for the transform.
 fn is_key_of_every_map(key: &str) -> bool
     ensures { result ≡ is_one_of (map_keys Kind.Identity) key.now }
 {
     key == "kind" || key == "complement"
 }
 
-// Tests that the key is one of every map, or this one.
+// The same, or this one.
 fn is_key_of_map_or(key: &str, own: &str) -> bool
     ensures { result ≡ is_one_of (codes "kind" ∷ codes "complement" ∷ own.now ∷ []) key.now }
 {

@@ -4,7 +4,9 @@ ghost use Rattle.std.specs.Prelude.{◌≡◌, ◌<◌, ◌≤◌, ℕ, OnOk, If
 ghost use Rattle.bm_base.specs.declared.shape.Shape.{Shape};
 ghost use Rattle.bm_gf2.specs.Matrix.{IsNonsingular};
 ghost use Rattle.bm_gf2.specs.Affine.{affine_image};
-ghost use Rattle.bm_jobfile.specs.MapJob.{IsNamedMap, NamedFaultIs, NamedIsFaultless, IsJobOf, MapFaultIs, MapIsFaultless};
+ghost use Rattle.bm_forms.specs.Job.{JobFits};
+ghost use Rattle.bm_jobfile.specs.MapJob.{IsNamedMap, NamedFaultIs, NamedIsFaultless};
+ghost use Rattle.bm_jobfile.specs.MapJob.{IsJobOf, MapFaultIs, MapIsFaultless};
 
 use crate::map_table::{MapText, NamedMap};
 use bm_base::Shape;
@@ -20,6 +22,7 @@ pub fn job_of(shape: &Shape, text: &MapText) -> Result<Job, MapFault>
     ensures job { IfOk result (λ job. IsJobOf shape.now text.now job) }
     ensures faultless { OnOk result (MapIsFaultless shape.now text.now) }
     ensures fault { IfErr result (λ e. MapFaultIs shape.now text.now e) }
+    ensures fits { IfOk result (λ job. JobFits shape.now job) }
 {
     match text {
         MapText::Walsh => walsh_job(shape),
@@ -32,6 +35,7 @@ fn walsh_job(shape: &Shape) -> Result<Job, MapFault>
     ensures job { IfOk result (λ job. IsJobOf shape.now MapText.Walsh job) }
     ensures faultless { OnOk result (MapIsFaultless shape.now MapText.Walsh) }
     ensures fault { IfErr result (λ e. MapFaultIs shape.now MapText.Walsh e) }
+    ensures fits { IfOk result (λ job. JobFits shape.now job) }
 {
     if shape.width() != 8 {
         return Err(MapFault::Width);
@@ -41,9 +45,13 @@ fn walsh_job(shape: &Shape) -> Result<Job, MapFault>
 
 // The named map, followed by XOR with the complement.
 fn permute_job(shape: &Shape, named: &NamedMap, complement: u64) -> Result<Job, MapFault>
-    ensures job { IfOk result (λ job. IsJobOf shape.now (MapText.Permute named.now complement) job) }
-    ensures faultless { OnOk result (MapIsFaultless shape.now (MapText.Permute named.now complement)) }
-    ensures fault { IfErr result (λ e. MapFaultIs shape.now (MapText.Permute named.now complement) e) }
+    ensures job { let text = MapText.Permute named.now complement in
+        IfOk result (λ job. IsJobOf shape.now text job) }
+    ensures faultless { let text = MapText.Permute named.now complement in
+        OnOk result (MapIsFaultless shape.now text) }
+    ensures fault { let text = MapText.Permute named.now complement in
+        IfErr result (λ e. MapFaultIs shape.now text e) }
+    ensures fits { IfOk result (λ job. JobFits shape.now job) }
 {
     let map = affine_of(shape.n(), named)?;
     if complement >= shape.records() {

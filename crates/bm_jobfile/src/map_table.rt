@@ -4,10 +4,9 @@ ghost use Rattle.std.specs.Prelude.{◌≡◌, codes, IfOk, IsErrOf, Ok, Err};
 ghost use Rattle.bm_base.specs.declared.field_name.FieldName.{FieldName};
 ghost use Rattle.toml.specs.Data.{get_member};
 ghost use Rattle.toml.specs.View.{table_view};
-ghost use Rattle.bm_jobfile.specs.Fields.{is_byte, is_any, list_in};
-ghost use Rattle.bm_jobfile.specs.MapTable.{named_in, map_in};
+ghost use Rattle.bm_jobfile.specs.MapTable.{bits_in, rows_in, named_in, map_in};
 
-use crate::fields::{FieldError, array_of, byte_field, count_field, value_at};
+use crate::fields::{FieldError, array_field, byte_field, count_field};
 use crate::kinds::Kind;
 use crate::number_lists::{ByteList, WordList, bytes_of, words_of};
 use bm_base::FieldName;
@@ -70,63 +69,47 @@ fn named_map(alloc: Global, map: &Table, kind: Kind) -> Result<Option<NamedMap>,
         Kind::Identity => NamedMap::Identity,
         Kind::Reversal => NamedMap::Reversal,
         Kind::BitReversal => NamedMap::BitReversal,
-        Kind::Transpose => return Ok(Some(NamedMap::Transpose {
+        Kind::Transpose => NamedMap::Transpose {
             p: byte_field(map, "p", FieldName::P)?,
-        })),
+        },
         Kind::Gray => NamedMap::Gray,
         Kind::InverseGray => NamedMap::InverseGray,
-        Kind::Rotation => return Ok(Some(NamedMap::Rotation {
+        Kind::Rotation => NamedMap::Rotation {
             by: byte_field(map, "by", FieldName::By)?,
-        })),
-        Kind::Bits => return Ok(Some(NamedMap::Bits {
-            list: byte_list(alloc, map)?,
-        })),
-        Kind::Rows => return Ok(Some(NamedMap::Rows {
+        },
+        Kind::Bits => NamedMap::Bits {
+            list: bit_list(alloc, map)?,
+        },
+        Kind::Rows => NamedMap::Rows {
             rows: row_list(alloc, map)?,
-        })),
+        },
         Kind::Walsh => return Ok(None),
     };
     Ok(Some(named))
 }
 
 // The list of the source bits.
-fn byte_list(alloc: Global, map: &Table) -> Result<ByteList, FieldError>
-    ensures ok { IfOk result (λ list.
-        list_in FieldName.Bits is_byte (get_member (codes "bits") (table_view map.now)) ≡ Ok list) }
+fn bit_list(alloc: Global, map: &Table) -> Result<ByteList, FieldError>
+    ensures ok { IfOk result (λ list. bits_in (table_view map.now) ≡ Ok list) }
     ensures faulty { (which : FieldName) → IsErrOf result (FieldError.Faulty which)
-        → list_in FieldName.Bits is_byte (get_member (codes "bits") (table_view map.now)) ≡ Err which }
+        → bits_in (table_view map.now) ≡ Err which }
 {
-    let Some(value) = value_at(map, "bits") else {
-        return Err(FieldError::Faulty {
-            which: FieldName::Bits,
-        });
-    };
-    let values = array_of(value, FieldName::Bits)?;
+    let values = array_field(map, "bits", FieldName::Bits)?;
     match bytes_of(alloc, values)? {
         Some(list) => Ok(list),
-        None => Err(FieldError::Faulty {
-            which: FieldName::Bits,
-        }),
+        None => Err(FieldError::from(FieldName::Bits)),
     }
 }
 
 // The list of the rows.
 fn row_list(alloc: Global, map: &Table) -> Result<WordList, FieldError>
-    ensures ok { IfOk result (λ list.
-        list_in FieldName.Rows is_any (get_member (codes "rows") (table_view map.now)) ≡ Ok list) }
+    ensures ok { IfOk result (λ rows. rows_in (table_view map.now) ≡ Ok rows) }
     ensures faulty { (which : FieldName) → IsErrOf result (FieldError.Faulty which)
-        → list_in FieldName.Rows is_any (get_member (codes "rows") (table_view map.now)) ≡ Err which }
+        → rows_in (table_view map.now) ≡ Err which }
 {
-    let Some(value) = value_at(map, "rows") else {
-        return Err(FieldError::Faulty {
-            which: FieldName::Rows,
-        });
-    };
-    let values = array_of(value, FieldName::Rows)?;
+    let values = array_field(map, "rows", FieldName::Rows)?;
     match words_of(alloc, values)? {
         Some(rows) => Ok(rows),
-        None => Err(FieldError::Faulty {
-            which: FieldName::Rows,
-        }),
+        None => Err(FieldError::from(FieldName::Rows)),
     }
 }

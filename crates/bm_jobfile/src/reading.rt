@@ -1,9 +1,11 @@
 //! Reading a job text.
 
-ghost use Rattle.std.specs.Prelude.{◌≡◌, ◌⊎◌, ℕ, IfOk, IfErr, IsErrOf, Ok, Err};
+ghost use Rattle.std.specs.Prelude.{◌≡◌, ◌⊎◌, ℕ, ◌-◌, ◌^◌, ◌≤◌, length, IfOk, IfErr, IsErrOf, Ok, Err};
+ghost use Rattle.std.specs.Option.{ForSome};
 ghost use Rattle.bm_base.specs.declared.field_name.FieldName.{FieldName};
 ghost use Rattle.bm_base.specs.declared.shape.Shape.{Shape};
 ghost use Rattle.bm_named.specs.declared.map_fault.MapFault.{MapFault};
+ghost use Rattle.bm_forms.specs.Job.{JobFits};
 ghost use Rattle.toml.specs.View.{table_view};
 ghost use Rattle.bm_jobfile.specs.JobText.{text_of};
 ghost use Rattle.bm_jobfile.specs.JobFile.{every_of, IsDocument, IsNoDocument, HasFaultyField, HasBrokenRule, HasMapFault, IsJobFile, BreaksRule, FaultsMap, IsFileOf};
@@ -53,6 +55,10 @@ pub fn read_job(alloc: Global, text: &[u8]) -> Result<JobFile, JobError>
         → HasBrokenRule text.now rule }
     ensures map { (shape : Shape) (fault : MapFault) → IsErrOf result (JobError.Map shape fault)
         → HasMapFault text.now shape fault }
+    ensures fits { IfOk result (λ file. JobFits file.shape file.job) }
+    ensures every_some { IfOk result (λ file. 1 ≤ file.every) }
+    ensures every_few { IfOk result (λ file. file.every ≤ 2 ^ (file.shape.n - file.shape.m)) }
+    ensures stops { IfOk result (λ file. length file.stops ≤ 64) }
 {
     let document = document_in(alloc, text)?;
     let job = job_text(alloc, &document)?;
@@ -85,6 +91,8 @@ fn job_text(alloc: Global, document: &Table) -> Result<JobText, FieldError>
     ensures ok { IfOk result (λ text. text_of (table_view document.now) ≡ Ok text) }
     ensures faulty { (which : FieldName) → IsErrOf result (FieldError.Faulty which)
         → text_of (table_view document.now) ≡ Err which }
+    ensures checkpoint { IfOk result (λ text. ForSome text.checkpoint (λ count. 1 ≤ count)) }
+    ensures stops { IfOk result (λ text. length text.stops ≤ 64) }
 {
     let shape = table_field(document, "shape", FieldName::Shape)?;
     let numbers = shape_numbers(shape)?;
@@ -102,9 +110,7 @@ fn job_text(alloc: Global, document: &Table) -> Result<JobText, FieldError>
         && has_known_keys_if_there(TableName::Drill, drill)
         && has_known_keys_if_there(TableName::Run, run);
     if !known {
-        return Err(FieldError::Faulty {
-            which: FieldName::Unknown,
-        });
+        return Err(FieldError::from(FieldName::Unknown));
     }
     Ok(JobText {
         shape: numbers,
@@ -117,12 +123,16 @@ fn job_text(alloc: Global, document: &Table) -> Result<JobText, FieldError>
 
 // The file of what the fields say.
 fn file_of(text: JobText) -> Result<JobFile, JobError>
+    requires { ForSome text.checkpoint (λ count. 1 ≤ count) }
     ensures file { IfOk result (λ file. IsFileOf text file) }
     ensures text { ¬ IsErrOf result JobError.Text }
     ensures field { (which : FieldName) → ¬ IsErrOf result (JobError.Field which) }
     ensures shape { (rule : ℕ) → IsErrOf result (JobError.Shape rule) → BreaksRule text rule }
     ensures map { (shape : Shape) (fault : MapFault) → IsErrOf result (JobError.Map shape fault)
         → FaultsMap text shape fault }
+    ensures fits { IfOk result (λ file. JobFits file.shape file.job) }
+    ensures every_some { IfOk result (λ file. 1 ≤ file.every) }
+    ensures every_few { IfOk result (λ file. file.every ≤ 2 ^ (file.shape.n - file.shape.m)) }
 {
     let numbers = text.shape;
     let shape = Shape::new(numbers.n, numbers.b, numbers.d, numbers.m, numbers.width)?;
@@ -140,7 +150,11 @@ fn file_of(text: JobText) -> Result<JobFile, JobError>
 
 // After how many loads a checkpoint is taken: all of a pass at most, and where nothing is named.
 fn every_of(checkpoint: Option<u64>, loads: u64) -> u64
-    ensures { result ≡ every_of checkpoint loads }
+    requires count { ForSome checkpoint (λ count. 1 ≤ count) }
+    requires loads { 1 ≤ loads }
+    ensures value { result ≡ every_of checkpoint loads }
+    ensures some { 1 ≤ result }
+    ensures few { result ≤ loads }
 {
     match checkpoint {
         Some(count) => count.min(loads),

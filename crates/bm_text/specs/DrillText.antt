@@ -2,6 +2,7 @@
 use Rattle.std.specs.Prelude.{codes, ℕ, List, ◌++◌, decimal}
 use Rattle.hex.specs.Hex.{encode_lower}
 use Rattle.bm_base.specs.declared.report.DrillReport.{DrillReport}
+use Rattle.bm_text.specs.Line.{headed}
 
 -- the passes of the job, the restarts, the parallel transfers and their bound, and the word before the digest, a line each
 abbrev pub count_lines : DrillReport → List ℕ
@@ -11,4 +12,4 @@ count_lines report =
 
 -- these, and the digest in 64 hexadecimal digits
 abbrev pub drill_text : DrillReport → List ℕ
-drill_text report = count_lines report ++ encode_lower report.digest ++ codes "\n"
+drill_text report = headed (count_lines report) (encode_lower report.digest)

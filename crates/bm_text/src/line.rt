@@ -1,8 +1,8 @@
 //! The line that ends a command.
-ghost use Rattle.std.specs.Prelude.{◌≡◌, ◌≤◌, ◌++◌, IsTrue, IsOk, IsErr, codes};
+ghost use Rattle.std.specs.Prelude.{◌≡◌, ◌≤◌, ◌++◌, IsTrue, IsOk, IsErr};
 ghost use Rattle.bm_base.specs.Count.{Rose};
 ghost use Rattle.bm_rack.specs.Sink.{AppendsFront};
-ghost use Rattle.bm_text.specs.Line.{line};
+ghost use Rattle.bm_text.specs.Line.{headed, line};
 
 use bm_base::Failed;
 use bm_rack::{Sink, write_all_of};
@@ -24,9 +24,9 @@ pub fn write_line<K: Sink>(sink: &mut K, words: &[u8]) -> Result<(), Failed>
 /// Writes a head, the words and a line feed. Where it fails, a front of these was written.
 pub fn write_headed<K: Sink>(sink: &mut K, head: &[u8], words: &[u8]) -> Result<(), Failed>
     ensures all { IsTrue K.tells → IsOk result
-        → K.taken sink.new ≡ K.taken sink.old ++ head.now ++ words.now ++ codes "\n" }
+        → K.taken sink.new ≡ K.taken sink.old ++ headed head.now words.now }
     ensures front { IsTrue K.tells
-        → AppendsFront (K.taken sink.old) (K.taken sink.new) (head.now ++ words.now ++ codes "\n") }
+        → AppendsFront (K.taken sink.old) (K.taken sink.new) (headed head.now words.now) }
     ensures faults { K.faults sink.old ≤ K.faults sink.new }
     ensures cause { IsErr result → Rose (K.faults sink.old) (K.faults sink.new) }
 {

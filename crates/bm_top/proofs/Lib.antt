@@ -4,3 +4,4 @@ pub mod RecordIoLemmas
 pub mod DumpLemmas
 pub mod LoadLemmas
 pub mod FlipLemmas
+pub mod PlanLemmas

@@ -8,7 +8,7 @@ use Rattle.bm_base.specs.ShapeRules.{IsShape, broken_rule}
 use Rattle.bm_base.specs.Records.{bytes_of}
 use Rattle.bm_rack.specs.RackView.{RackView}
 use Rattle.bm_top.specs.declared.status.Status.{Status}
-use Rattle.bm_top.specs.declared.status.Status.TheVariants.{Done, OutOfMemory, Usage, JobShape, DataFault, DataShort, DataLong, RackFault, NoDisks, WrongDims, Exists, SinkFault}
+use Rattle.bm_top.specs.declared.status.Status.TheVariants.{Done, OutOfMemory, Usage, JobFault, JobText, JobField, JobShape, JobMap, DataFault, DataShort, DataLong, RackFault, NoDisks, WrongDims, Exists, SinkFault}
 use Rattle.bm_top.specs.Flip.{flipped}
 use Rattle.bm_top.specs.FlipAnswers.{FlipInput, FlipOutput, FlipRack, IsUnhindered, IsOfWords}
 
@@ -40,6 +40,10 @@ not_of_words Usage usage rule of = usage refl
 not_of_words (JobShape x) usage rule of = rule x refl
 not_of_words Done usage rule of = of
 not_of_words OutOfMemory usage rule of = of
+not_of_words JobFault usage rule of = of
+not_of_words JobText usage rule of = of
+not_of_words (JobField which) usage rule of = of
+not_of_words (JobMap fault) usage rule of = of
 not_of_words DataFault usage rule of = of
 not_of_words (DataShort got) usage rule of = of
 not_of_words DataLong usage rule of = of
@@ -67,6 +71,10 @@ flip_is_complete _ _ _ _ s Done _ _ _ _ _ _ _ _ _ _ _ words i o r h = inl refl
 flip_is_complete _ _ _ _ s OutOfMemory _ _ _ _ _ _ _ _ _ _ _ words i o r h = inr refl
 flip_is_complete _ _ _ _ s Usage _ _ _ _ _ _ _ _ _ _ _ words i o r h = absurd (words tt)
 flip_is_complete _ _ _ _ s (JobShape rule) _ _ _ _ _ _ _ _ _ _ _ words i o r h = absurd (words tt)
+flip_is_complete _ _ _ _ s JobFault _ _ _ _ _ _ _ _ _ _ _ words i o r h = absurd (i.no_job tt)
+flip_is_complete _ _ _ _ s JobText _ _ _ _ _ _ _ _ _ _ _ words i o r h = absurd (i.no_job tt)
+flip_is_complete _ _ _ _ s (JobField which) _ _ _ _ _ _ _ _ _ _ _ words i o r h = absurd (i.no_job tt)
+flip_is_complete _ _ _ _ s (JobMap fault) _ _ _ _ _ _ _ _ _ _ _ words i o r h = absurd (i.no_job tt)
 flip_is_complete _ _ _ _ s DataFault _ _ _ _ _ _ _ _ _ _ _ words i o r h = absurd (h.input (i.fault refl))
 flip_is_complete _ _ _ _ s (DataShort got) _ _ _ _ _ _ _ _ _ _ _ words i o r h =
     let short = i.short got refl in

@@ -1,11 +1,13 @@
 -- The words of a flip, one by one.
-use Rattle.std.proofs.Common.{◌≡◌, ℕ, ◌<◌, List, [], ◌∷◌, length, get_or, Option, Some, None, String, Global, string_bytes, refl, sym, ap, ◌∙◌, arith}
+use Rattle.std.proofs.Common.{◌≡◌, ℕ, ◌<◌, List, [], ◌∷◌, length, get_or, Option, Some, None, String, Global, string_bytes, codes, refl, sym, ap, subst, ◌∙◌, arith}
 use Rattle.std.specs.Fmt.{decimal}
 use Rattle.std.proofs.lemmas.Fmt.{decimal_injective}
 use Rattle.std.proofs.lemmas.List.{get_or-map}
 use Rattle.std.specs.Option.{IfNone}
 use Rattle.bm_top.specs.declared.words.Flip.{Flip}
-use Rattle.bm_top.specs.Words.{IsFlip, texts_of, spelled}
+use Rattle.bm_top.specs.declared.words.Command.{Command}
+use Rattle.bm_top.specs.declared.words.Command.TheVariants as command
+use Rattle.bm_top.specs.Words.{IsFlip, IsPlan, IsCommand, texts_of, spelled}
 
 -- a fact holds where nothing was found, if it holds anyway
 pub if_none : {T : Type 0} (o : Option T) {P : Type 0} → P → IfNone o P
@@ -71,3 +73,24 @@ IsFlip-unique words f g x y =
     (decimal_injective _ _ (omega arith) (omega arith) m)
     (decimal_injective _ _ (omega arith) (omega arith) width)
     (decimal_injective _ _ x.within.c y.within.c c)
+
+-- the flip of the command that the words spell is the one that they spell
+pub the_flip : (words : List (String Global)) (c : Command) (f g : Flip) → c ≡ command.Flip f → IsCommand words c → IsFlip words g → f ≡ g
+the_flip words c f g same is other = IsFlip-unique words f g (subst (IsCommand words) same is) other
+
+-- two words of which the first is `plan`
+pub two_words : (words : List (String Global)) (w : String Global) → length words ≡ 2 → w ≡ get_or words 0 w
+    → string_bytes w ≡ codes "plan" → IsPlan words
+two_words ([]) w two at name = absurd (omega (arith, two))
+two_words (a ∷ []) w two at name = absurd (omega (arith, two))
+two_words (a ∷ b ∷ c ∷ rest) w two at name = absurd (omega (arith, two))
+two_words (a ∷ b ∷ []) w two at name =
+    record { job = string_bytes b; words_are = ap (λ (x : List ℕ). x ∷ string_bytes b ∷ []) (ap string_bytes (sym at) ∙ name) }
+
+-- the first word of a plan
+pub plan_name : (words : List (String Global)) (w : String Global) → w ≡ get_or words 0 w → IsPlan words → string_bytes w ≡ codes "plan"
+plan_name ([]) w at is = let spelt = is.words_are in absurd (cc)
+plan_name (a ∷ rest) w at is =
+    let spelt = is.words_are in
+    let first : string_bytes a ≡ codes "plan" = cc in
+    ap string_bytes at ∙ first

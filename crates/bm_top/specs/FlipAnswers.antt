@@ -7,7 +7,7 @@ use Rattle.bm_rack.specs.RackView.{RackView}
 use Rattle.bm_rack.specs.Frames.{Keeps, HasCause}
 use Rattle.bm_rack.specs.Sink.{AppendsFront}
 use Rattle.bm_top.specs.declared.status.Status.{Status}
-use Rattle.bm_top.specs.declared.status.Status.TheVariants.{Done, OutOfMemory, Usage, JobShape, DataFault, DataShort, DataLong, RackFault, NoDisks, WrongDims, Exists, SinkFault}
+use Rattle.bm_top.specs.declared.status.Status.TheVariants.{Done, OutOfMemory, Usage, JobFault, JobText, JobField, JobShape, JobMap, DataFault, DataShort, DataLong, RackFault, NoDisks, WrongDims, Exists, SinkFault}
 use Rattle.bm_top.specs.RecordIo.{EndsAfter, GoesOnAfter, MovesRows}
 use Rattle.bm_top.specs.Disks.{SameDisks, SameOrNewDisks}
 
@@ -48,8 +48,17 @@ IsOfWords Usage = Unit {0}
 IsOfWords (JobShape rule) = Unit {0}
 IsOfWords _ = ⊥
 
+-- the answer comes of a job text, which a flip has not
+abbrev pub IsOfJobText : Status → Type 0
+IsOfJobText JobFault = Unit {0}
+IsOfJobText JobText = Unit {0}
+IsOfJobText (JobField which) = Unit {0}
+IsOfJobText (JobMap fault) = Unit {0}
+IsOfJobText _ = ⊥
+
 -- the input of a flip, of which so many bytes are wanted
 pub record FlipInput (told : Bool) (size : ℕ) (answer : Status) (old new : List ℕ) (old_faults new_faults : ℕ) : Type 0 where
+  pub no_job : ¬ IsOfJobText answer
   pub unread : IsBeforeInput answer → (new ≡ old) × (new_faults ≡ old_faults)
   pub whole : IsTrue told → IsAfterInput answer → (length old ≡ size) × (new ≡ [])
   pub short : (got : ℕ) → answer ≡ DataShort got → EndsAfter told size old new got

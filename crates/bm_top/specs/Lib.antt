@@ -5,3 +5,4 @@ pub mod Disks
 pub mod RecordIo
 pub mod Flip
 pub mod FlipAnswers
+pub mod PlanAnswers

@@ -3,6 +3,8 @@ use Rattle.std.specs.Prelude.{◌≡◌, codes, ℕ, ◌^◌, ◌<◌, ◌≤◌
 use Rattle.std.specs.declared.alloc.Global.{Global}
 use Rattle.bm_base.specs.declared.shape.Shape.{Shape}
 use Rattle.bm_top.specs.declared.words.Flip.{Flip}
+use Rattle.bm_top.specs.declared.words.Command.{Command}
+use Rattle.bm_top.specs.declared.words.Command.TheVariants as command
 
 -- the words as texts
 abbrev pub texts_of : List (String Global) → List (List ℕ)
@@ -31,6 +33,21 @@ pub record IsFlip (words : List (String Global)) (f : Flip) : Type 0 where
 abbrev pub flip_by : Shape → ℕ → Flip
 flip_by s c = record { n = s.n; b = s.b; d = s.d; m = s.m; width = s.width; c = c }
 
+-- the words are `plan` and a word that names the job
+pub record IsPlan (words : List (String Global)) : Type 0 where
+  pub job : List ℕ
+  pub words_are : texts_of words ≡ codes "plan" ∷ job ∷ []
+
+-- the words are those of this command
+abbrev pub IsCommand : List (String Global) → Command → Type 0
+IsCommand words (command.Flip f) = IsFlip words f
+IsCommand words command.Plan = IsPlan words
+
+-- the words are those of no flip
+abbrev pub IsNoFlip : List (String Global) → Type 0
+IsNoFlip words = (f : Flip) → ¬ IsFlip words f
+
 -- the words are those of no command
-abbrev pub IsNoCommand : List (String Global) → Type 0
-IsNoCommand words = (f : Flip) → ¬ IsFlip words f
+pub record IsNoCommand (words : List (String Global)) : Type 0 where
+  pub no_flip : IsNoFlip words
+  pub no_plan : ¬ IsPlan words

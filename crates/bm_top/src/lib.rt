@@ -5,6 +5,7 @@ mod commands;
 mod disks;
 mod flip_loads;
 mod flip_records;
+mod job_words;
 mod record_io;
 mod source_bytes;
 mod status;

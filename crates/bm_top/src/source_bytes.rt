@@ -1,5 +1,5 @@
 //! Bytes from a source.
-ghost use Rattle.std.specs.Prelude.{◌≡◌, ℕ, ◌≤◌, ◌++◌, List, [], length, drop, IsTrue, IsOk, IsErr, IfOk, ◌↔◌};
+ghost use Rattle.std.specs.Prelude.{◌≡◌, ℕ, ◌<◌, ◌≤◌, ◌++◌, List, [], length, take, drop, IsTrue, IsOk, IsErr, IfOk, ◌↔◌};
 ghost use Rattle.bm_base.specs.Count.{Rose};
 ghost use Rattle.bm_top.specs.RecordIo.{EndsAfter};
 
@@ -23,6 +23,9 @@ pub fn fill<S: Source>(source: &mut S, into: &mut [u8]) -> Result<(), FillError>
     ensures whole { IsTrue S.tells → IsOk result → S.left source.old ≡ into.new ++ S.left source.new }
     ensures short { (got : ℕ) → result ≡ Err (FillError.Short got)
         → EndsAfter S.tells (length into.old) (S.left source.old) (S.left source.new) got }
+    ensures part { IsTrue S.tells → (got : ℕ) → result ≡ Err (FillError.Short got)
+        → S.left source.old ≡ take got into.new }
+    ensures within { (got : ℕ) → result ≡ Err (FillError.Short got) → got < length into.new }
     ensures fault { result ≡ Err FillError.Fault → Rose (S.faults source.old) (S.faults source.new) }
     ensures faults { S.faults source.old ≤ S.faults source.new }
 {

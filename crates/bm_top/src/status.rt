@@ -2,6 +2,9 @@
 ghost use Rattle.std.specs.Prelude.{◌≡◌};
 ghost use Rattle.bm_top.specs.Status.{code_of};
 
+use bm_base::FieldName;
+use bm_named::MapFault;
+
 /// How a command ended.
 #[derive(Clone, Copy, Debug, PartialEq, Eq)]
 pub enum Status {
@@ -11,10 +14,24 @@ pub enum Status {
     OutOfMemory,
     /// The words are no command.
     Usage,
+    /// The job source failed.
+    JobFault,
+    /// The job text is longer than 65536 bytes, or is no TOML document.
+    JobText,
+    /// This field of the job text is the first that is faulty.
+    JobField {
+        /// The field.
+        which: FieldName,
+    },
     /// The numbers of the shape break this rule, and none before it.
     JobShape {
         /// The number of the rule, as of `Shape::new`.
         rule: u8,
+    },
+    /// The job's map has this fault, and none before it.
+    JobMap {
+        /// The fault.
+        fault: MapFault,
     },
     /// The input failed.
     DataFault,
@@ -46,7 +63,11 @@ impl Status {
             Status::Done => 0,
             Status::OutOfMemory => 1,
             Status::Usage => 2,
+            Status::JobFault => 3,
+            Status::JobText => 4,
+            Status::JobField { .. } => 5,
             Status::JobShape { .. } => 6,
+            Status::JobMap { .. } => 7,
             Status::DataFault => 8,
             Status::DataShort { .. } => 9,
             Status::DataLong => 10,

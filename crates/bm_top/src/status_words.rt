@@ -4,6 +4,7 @@ ghost use Rattle.arrayvec.specs.ArrayString.{array_string_len};
 ghost use Rattle.bm_top.specs.StatusWords.{words_of, line_of};
 
 use crate::Status;
+use crate::job_words::{fault_words, field_name};
 use arrayvec::ArrayString;
 use itoa::Buffer;
 
@@ -18,9 +19,19 @@ fn status_words(status: &Status) -> ArrayString<128>
         Status::Done => words.push_str("done"),
         Status::OutOfMemory => words.push_str("out of memory"),
         Status::Usage => words.push_str("usage"),
+        Status::JobFault => words.push_str("job fault"),
+        Status::JobText => words.push_str("job text"),
+        Status::JobField { which } => {
+            words.push_str("job field ");
+            words.push_str(field_name(*which));
+        }
         Status::JobShape { rule } => {
             words.push_str("job shape rule ");
             words.push_str(buffer.format(*rule));
+        }
+        Status::JobMap { fault } => {
+            words.push_str("job map ");
+            words.push_str(fault_words(fault).as_str());
         }
         Status::DataFault => words.push_str("input fault"),
         Status::DataShort { got } => {

@@ -5,23 +5,26 @@ ghost use Rattle.bm_base.specs.Count.{Rose};
 ghost use Rattle.bm_base.specs.ShapeRules.{broken_rule};
 ghost use Rattle.bm_rack.specs.Sink.{AppendsFront};
 ghost use Rattle.bm_top.specs.declared.words.Flip.{Flip};
-ghost use Rattle.bm_top.specs.Words.{IsFlip, IsNoCommand, flip_by};
+ghost use Rattle.bm_top.specs.Words.{IsFlip, IsPlan, IsNoCommand, flip_by};
 ghost use Rattle.bm_top.specs.StatusWords.{line_of};
 ghost use Rattle.bm_top.specs.RecordIo.{input_size};
 ghost use Rattle.bm_top.specs.Flip.{flipped};
 ghost use Rattle.bm_top.specs.FlipAnswers.{FlipInput, FlipOutput, FlipRack, IsUnhindered, IsOfWords};
+ghost use Rattle.bm_top.specs.PlanAnswers.{PlanJob, PlanSource, PlanOutput, IsPlanUnhindered};
 
 use crate::Status;
 use crate::commands::flip::run_flip;
+use crate::commands::plan::run_plan;
 use crate::status_words::status_line;
-use crate::words::flip_of;
+use crate::words::{Command, command_of};
 use bm_rack::{Rack, Sink, Source, write_all_of};
 use std::alloc::Global;
 
 /// Carries out the command that the words spell.
-fn run_command<R: Rack, S: Source, K: Sink>(
+fn run_command<R: Rack, J: Source, S: Source, K: Sink>(
     alloc: Global,
     words: &[String],
+    job: &mut J,
     input: &mut S,
     out: &mut K,
     rack: &mut R,
@@ -41,9 +44,17 @@ fn run_command<R: Rack, S: Source, K: Sink>(
         (K.taken out.old) (K.taken out.new) (K.faults out.old) (K.faults out.new) }
     ensures rack { (s : Shape) (c : ℕ) → IsFlip words.now (flip_by s c)
         → FlipRack R.tells_stands R.tells_contents s result (R.view rack.old) (R.view rack.new) }
+    ensures plan_job { IsPlan words.now → PlanJob (IsTrue J.tells) (J.left job.old) result }
+    ensures plan_source { IsPlan words.now → PlanSource result (J.faults job.old) (J.faults job.new) }
+    ensures plan_output { IsPlan words.now
+        → PlanOutput (IsTrue J.tells × IsTrue K.tells) (J.left job.old) result
+        (K.taken out.old) (K.taken out.new) (K.faults out.old) (K.faults out.new) }
+    ensures plan_untouched { IsPlan words.now → (rack.new ≡ rack.old) × (input.new ≡ input.old) }
+    ensures job { ¬ IsPlan words.now → job.new ≡ job.old }
 {
-    match flip_of(words) {
-        Some(flip) => run_flip(alloc, &flip, input, out, rack),
+    match command_of(words) {
+        Some(Command::Flip(flip)) => run_flip(alloc, &flip, input, out, rack),
+        Some(Command::Plan) => run_plan(alloc, job, out),
         None => Status::Usage,
     }
 }
@@ -55,6 +66,11 @@ fn run_command<R: Rack, S: Source, K: Sink>(
 /// `Usage`; `JobShape`; `OutOfMemory` for two buffers of one memory load; then for the disks, which
 /// it makes and attaches, `RackFault`, `Exists`, `OutOfMemory`, `NoDisks`, `WrongDims`; then
 /// `DataFault`, `DataShort`, `RackFault`, `DataLong`, `SinkFault` as they are met.
+///
+/// `plan JOB` reads the whole job source and writes to `out` the steps of the job's plan. It leaves
+/// the rack and the input as they are. Its refusals come in this order: `Usage`; `JobFault`;
+/// `JobText`, for a text of 65537 bytes and more too; `JobField`; `JobShape`; `JobMap`; `SinkFault`.
+/// `OutOfMemory` may come at any point of them before the first byte is written.
 ///
 /// A write to `err` that fails ends that line, and changes nothing else.
 pub fn bmmc_top<R: Rack, J: Source, S: Source, K: Sink, E: Sink>(
@@ -70,7 +86,7 @@ pub fn bmmc_top<R: Rack, J: Source, S: Source, K: Sink, E: Sink>(
     ensures usage { (result ≡ Status.Usage) ↔ IsNoCommand words.now }
     ensures refused { IsOfWords result
         → (rack.new ≡ rack.old) × (input.new ≡ input.old) × (out.new ≡ out.old) }
-    ensures job { job.new ≡ job.old }
+    ensures job { ¬ IsPlan words.now → job.new ≡ job.old }
     ensures line { IsTrue E.tells → ¬ Rose (E.faults err.old) (E.faults err.new)
         → E.taken err.new ≡ E.taken err.old ++ line_of result }
     ensures front { IsTrue E.tells → AppendsFront (E.taken err.old) (E.taken err.new) (line_of result) }
@@ -93,8 +109,20 @@ pub fn bmmc_top<R: Rack, J: Source, S: Source, K: Sink, E: Sink>(
         → IsUnhindered R.tells_stands S.tells (input_size s) (R.view rack.old) (R.view rack.new)
         (S.left input.old) (S.faults input.old) (S.faults input.new) (K.faults out.old) (K.faults out.new)
         → (result ≡ Status.Done) ⊎ (result ≡ Status.OutOfMemory) }
+
+    // a plan: what its answer tells of the job text that the job source holds, and what it writes
+    ensures plan_job { IsPlan words.now → PlanJob (IsTrue J.tells) (J.left job.old) result }
+    ensures plan_source { IsPlan words.now → PlanSource result (J.faults job.old) (J.faults job.new) }
+    ensures plan_output { IsPlan words.now
+        → PlanOutput (IsTrue J.tells × IsTrue K.tells) (J.left job.old) result
+        (K.taken out.old) (K.taken out.new) (K.faults out.old) (K.faults out.new) }
+    ensures plan_untouched { IsPlan words.now → (rack.new ≡ rack.old) × (input.new ≡ input.old) }
+    ensures plan_complete { IsPlan words.now
+        → IsPlanUnhindered (IsTrue J.tells) (J.left job.old)
+        (J.faults job.old) (J.faults job.new) (K.faults out.old) (K.faults out.new)
+        → (result ≡ Status.Done) ⊎ (result ≡ Status.OutOfMemory) }
 {
-    let status = run_command(alloc, words, input, out, rack);
+    let status = run_command(alloc, words, job, input, out, rack);
     let _ = write_all_of(err, status_line(&status).as_str().as_bytes());
     status
 }

@@ -1,6 +1,6 @@
 //! The words of a command.
 ghost use Rattle.std.specs.Prelude.{◌≡◌, ◌≢◌, ◌↔◌, ℕ, ◌^◌, ◌<◌, ◌≤◌, IfSome, IfNone, IsTrue, decimal};
-ghost use Rattle.bm_top.specs.Words.{IsFlip, IsNoCommand};
+ghost use Rattle.bm_top.specs.Words.{IsFlip, IsPlan, IsCommand, IsNoFlip, IsNoCommand};
 
 use itoa::Buffer;
 
@@ -19,6 +19,15 @@ pub struct Flip {
     pub width: u16,
     /// What is XORed to each address.
     pub c: u64,
+}
+
+/// A command.
+#[derive(Clone, Copy, Debug, PartialEq, Eq)]
+pub enum Command {
+    /// `flip n b d m width c`.
+    Flip(Flip),
+    /// `plan JOB`, where JOB is any word.
+    Plan,
 }
 
 /// The most bits of an address.
@@ -72,10 +81,10 @@ fn is_address(c: u64, n: u8) -> bool
     n > MOST_BITS || c < 1u64 << n
 }
 
-/// The flip that the words spell, or nothing where they are no command.
-pub fn flip_of(words: &[String]) -> Option<Flip>
+/// The flip that the words spell, or nothing where they are none.
+fn flip_of(words: &[String]) -> Option<Flip>
     ensures found { IfSome result (λ f. IsFlip words.now f) }
-    ensures none { IfNone result (IsNoCommand words.now) }
+    ensures none { IfNone result (IsNoFlip words.now) }
 {
     match words {
         [name, n, b, d, m, width, c] => {
@@ -101,5 +110,29 @@ pub fn flip_of(words: &[String]) -> Option<Flip>
             })
         }
         _ => None,
+    }
+}
+
+/// Whether the words are `plan` and another one.
+fn is_plan(words: &[String]) -> bool
+    ensures { IsTrue result ↔ IsPlan words.now }
+{
+    match words {
+        [name, _] => name.as_str() == "plan",
+        _ => false,
+    }
+}
+
+/// The command that the words spell, or nothing where they are none.
+pub fn command_of(words: &[String]) -> Option<Command>
+    ensures found { IfSome result (λ command. IsCommand words.now command) }
+    ensures none { IfNone result (IsNoCommand words.now) }
+{
+    if is_plan(words) {
+        return Some(Command::Plan);
+    }
+    match flip_of(words) {
+        Some(flip) => Some(Command::Flip(flip)),
+        None => None,
     }
 }

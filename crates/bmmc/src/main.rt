@@ -7,8 +7,9 @@ ghost use Rattle.bm_top.specs.Status.{code_of};
 
 mod streams;
 
-use bm_filerack::{StdSink, StdSource};
+use bm_filerack::{FileSource, StdSink, StdSource};
 use bm_memrack::{SureRack, SureSource};
+use bm_rack::Source;
 use bm_top::{Status, bmmc_top};
 use std::alloc::AllocError;
 use std::io::ErrorKind;
@@ -51,26 +52,54 @@ impl From<AllocError> for StartError {
     }
 }
 
-/// Makes the call over a rack in memory. Nothing is written where it is not made.
+/// The word that names the job of a command that reads one.
+fn job_path(words: &[String]) -> Option<&str> {
+    match words {
+        [name, path] => {
+            if name.as_str() == "plan" {
+                Some(path.as_str())
+            } else {
+                None
+            }
+        }
+        _ => None,
+    }
+}
+
+/// Makes the call with this job source, over a rack in memory.
+fn call<J: Source>(rt: &HostRuntime, words: &[String], job: &mut J) -> Status {
+    let mut input = StdSource::new(rt.stdin());
+    let mut out = StdSink::new(rt.stdout());
+    let mut err = StdSink::new(rt.stderr());
+    let mut rack = SureRack::new(rt.alloc());
+    bmmc_top(
+        rt.alloc(),
+        words,
+        job,
+        &mut input,
+        &mut out,
+        &mut err,
+        &mut rack,
+    )
+}
+
+/// Makes the call with the file of the job as the job source, or with a source of no bytes where
+/// the words name none. Nothing is written where the call is not made.
 fn run(rt: &HostRuntime) -> Result<Status, StartError> {
     if !has_standard_streams(rt) {
         return Err(StartError::Unavailable);
     }
     let words: Vec<String> = env::args(rt)?.skip(1).collect(rt.alloc())?;
-    let mut job = SureSource::new(Vec::new(rt.alloc()));
-    let mut input = StdSource::new(rt.stdin());
-    let mut out = StdSink::new(rt.stdout());
-    let mut err = StdSink::new(rt.stderr());
-    let mut rack = SureRack::new(rt.alloc());
-    Ok(bmmc_top(
-        rt.alloc(),
-        words.as_slice(),
-        &mut job,
-        &mut input,
-        &mut out,
-        &mut err,
-        &mut rack,
-    ))
+    match job_path(words.as_slice()) {
+        Some(path) => {
+            let mut job = FileSource::new(rt, path);
+            Ok(call(rt, words.as_slice(), &mut job))
+        }
+        None => {
+            let mut job = SureSource::new(Vec::new(rt.alloc()));
+            Ok(call(rt, words.as_slice(), &mut job))
+        }
+    }
 }
 
 /// The exit status of the program.

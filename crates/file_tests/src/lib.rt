@@ -2,4 +2,6 @@
 #![tactic(auto)]
 
 #[cfg(test)]
+mod job_files;
+#[cfg(test)]
 mod tests;

@@ -12,6 +12,10 @@ mod flip_faults;
 #[cfg(test)]
 mod flip_rows;
 #[cfg(test)]
+mod job_rows;
+#[cfg(test)]
 mod pass_rows;
 #[cfg(test)]
 mod plan_rows;
+#[cfg(test)]
+mod text_rows;

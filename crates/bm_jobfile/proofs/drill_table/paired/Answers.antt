@@ -9,5 +9,5 @@ pub loop-k-preserved : goal.loop-k-preserved
 loop-k-preserved c =
     rw c.in_ok-push.ensures.items (paired_more c.args.numbers.now c.loop-k.k c.loop-k.list.items c.loop-k.invariant (omega arith))
 
-pub returns : goal.returns
-returns c = c.of.ensures ∙ paired_all c.args.numbers.now c.loop-k.k c.loop-k.list.items c.loop-k.invariant c.loop-k-test.false
+pub returns-clause-stops : goal.returns-clause-stops
+returns-clause-stops c = c.of.ensures ∙ paired_all c.args.numbers.now c.loop-k.k c.loop-k.list.items c.loop-k.invariant c.loop-k-test.false

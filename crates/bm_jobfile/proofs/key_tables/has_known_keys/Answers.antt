@@ -19,7 +19,8 @@ returns-then-not-is_known c =
     ap (is_one_of names) (sym c.as_str.ensures.value) ∙ sym c.is_known.ensures in
     let unknown : c.is_known.result ≡ false = search rules in
     let more = rest_more deref c.loop-key.key-iterator c.next.new.self c.next.result c.in-Some.key c.in-Some.is c.next.ensures.steps in
-    sym (one_key names c.in-Some.key.now c.next.new.self false _ (c.loop-key.invariant ∙ ap (list_all (is_named names)) more) (named ∙ unknown))
+    sym (one_key names c.in-Some.key.now c.next.new.self false _
+    (c.loop-key.invariant ∙ ap (list_all (is_named names)) more) (named ∙ unknown))
 
 pub loop-key-preserved : goal.loop-key-preserved
 loop-key-preserved c =

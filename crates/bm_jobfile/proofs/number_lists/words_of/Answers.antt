@@ -11,8 +11,8 @@ pub loop-value-preserved : goal.loop-value-preserved
 loop-value-preserved c =
     let number : number_of is_any (view c.value-item.result) ≡ Some c.in-Some.number = sym c.count_of.ensures ∙ c.in-Some.is in
     rw c.in_ok-push-in-Some.ensures.items
-    (read_more is_any c.args.values.now c.loop-value.value-index c.loop-value.list.items c.value-item.result c.in-Some.number c.loop-value.invariant
-    c.loop-value-test.true c.value-item.is number)
+    (read_more is_any c.args.values.now c.loop-value.value-index c.loop-value.list.items c.value-item.result c.in-Some.number
+    c.loop-value.invariant c.loop-value-test.true c.value-item.is number)
 
 pub returns-in-None : goal.returns-in-None
 returns-in-None c =
@@ -21,4 +21,5 @@ returns-in-None c =
     c.loop-value-test.true c.value-item.is number
 
 pub returns : goal.returns
-returns c = read_all is_any c.args.values.now c.loop-value.value-index c.loop-value.list.items c.loop-value.invariant c.loop-value-test.false
+returns c =
+    read_all is_any c.args.values.now c.loop-value.value-index c.loop-value.list.items c.loop-value.invariant c.loop-value-test.false

@@ -1,49 +1,49 @@
 use Rattle.std.proofs.Common.{◌≡◌, ◌∙◌, sym, rules, arith, true, refl, codes, string_bytes}
 use Rattle.std.specs.Fmt.{decimal}
 use Rattle.std.proofs.lemmas.Fmt.{decimal_injective}
-use Rattle.bm_top.specs.Words.{IsNoCommand}
+use Rattle.bm_top.specs.Words.{IsNoFlip}
 use Rattle.bm_top.proofs.WordsLemmas.{if_none, word_at, seven}
 use Rattle.bm_top.proofs.words.flip_of.Goals as goal
 
 pub returns-in_err-n-in-len7-clause-none : goal.returns-in_err-n-in-len7-clause-none
 returns-in_err-n-in-len7-clause-none c =
     let words = c.args.words.now in
-    if_none _ {P = IsNoCommand words} (λ f is.
+    if_none _ {P = IsNoFlip words} (λ f is.
     let spelt = word_at words f 1 c.n-item.result is.words_are (omega (arith, c.in-len7.len_at_least)) c.n-item.is in
     c.in_err-n-in-len7.ensures.none f.n is.within.n (c.as_str-in-len7.ensures.value ∙ spelt))
 
 pub returns-in_err-b-in-len7-clause-none : goal.returns-in_err-b-in-len7-clause-none
 returns-in_err-b-in-len7-clause-none c =
     let words = c.args.words.now in
-    if_none _ {P = IsNoCommand words} (λ f is.
+    if_none _ {P = IsNoFlip words} (λ f is.
     let spelt = word_at words f 2 c.b-item.result is.words_are (omega (arith, c.in-len7.len_at_least)) c.b-item.is in
     c.in_err-b-in-len7.ensures.none f.b is.within.b (c.as_str-in-len7-2.ensures.value ∙ spelt))
 
 pub returns-in_err-d-in-len7-clause-none : goal.returns-in_err-d-in-len7-clause-none
 returns-in_err-d-in-len7-clause-none c =
     let words = c.args.words.now in
-    if_none _ {P = IsNoCommand words} (λ f is.
+    if_none _ {P = IsNoFlip words} (λ f is.
     let spelt = word_at words f 3 c.d-item.result is.words_are (omega (arith, c.in-len7.len_at_least)) c.d-item.is in
     c.in_err-d-in-len7.ensures.none f.d is.within.d (c.as_str-in-len7-3.ensures.value ∙ spelt))
 
 pub returns-in_err-m-in-len7-clause-none : goal.returns-in_err-m-in-len7-clause-none
 returns-in_err-m-in-len7-clause-none c =
     let words = c.args.words.now in
-    if_none _ {P = IsNoCommand words} (λ f is.
+    if_none _ {P = IsNoFlip words} (λ f is.
     let spelt = word_at words f 4 c.m-item.result is.words_are (omega (arith, c.in-len7.len_at_least)) c.m-item.is in
     c.in_err-m-in-len7.ensures.none f.m is.within.m (c.as_str-in-len7-4.ensures.value ∙ spelt))
 
 pub returns-in_err-width-in-len7-clause-none : goal.returns-in_err-width-in-len7-clause-none
 returns-in_err-width-in-len7-clause-none c =
     let words = c.args.words.now in
-    if_none _ {P = IsNoCommand words} (λ f is.
+    if_none _ {P = IsNoFlip words} (λ f is.
     let spelt = word_at words f 5 c.width-item.result is.words_are (omega (arith, c.in-len7.len_at_least)) c.width-item.is in
     c.in_err-width-in-len7.ensures.none f.width is.within.width (c.as_str-in-len7-5.ensures.value ∙ spelt))
 
 pub returns-in_err-c-in-len7-clause-none : goal.returns-in_err-c-in-len7-clause-none
 returns-in_err-c-in-len7-clause-none c =
     let words = c.args.words.now in
-    if_none _ {P = IsNoCommand words} (λ f is.
+    if_none _ {P = IsNoFlip words} (λ f is.
     let spelt = word_at words f 6 c.c-item.result is.words_are (omega (arith, c.in-len7.len_at_least)) c.c-item.is in
     c.in_err-c-in-len7.ensures.none f.c (omega (arith, is.within.c)) (c.as_str-in-len7-6.ensures.value ∙ spelt))
 
