@@ -1,32 +1,22 @@
 -- A text that means a job file has no fault, and where nothing hinders a plan, it is written.
-use Rattle.std.proofs.Common.{◌≡◌, ◌⊎◌, inl, inr, ⊎_elim, ℕ, ◌^◌, ◌<◌, ◌≤◌, ◌++◌, List, length, Some, None, Ok, Err, sym, ap, subst, ◌∙◌, refl, arith, take}
+use Rattle.std.proofs.Common.{◌≡◌, ◌⊎◌, inl, inr, ⊎_elim, ℕ, ◌^◌, ◌<◌, ◌≤◌, ◌++◌, List, length, Some, Ok, Err, sym, ap, subst, ◌∙◌, refl, arith}
 use Rattle.bm_base.specs.declared.field_name.FieldName.{FieldName}
 use Rattle.bm_base.specs.declared.shape.Shape.{Shape}
 use Rattle.bm_named.specs.declared.map_fault.MapFault.{MapFault}
 use Rattle.bm_named.specs.declared.map_fault.MapFault.TheVariants as fault
-use Rattle.bm_forms.specs.declared.job.Job.{Job}
-use Rattle.bm_forms.specs.declared.job.Job.TheVariants as job
-use Rattle.bm_forms.specs.Job.{HasBits}
 use Rattle.bm_jobfile.specs.declared.job_file.JobFile.{JobFile}
 use Rattle.bm_jobfile.specs.declared.map_table.MapText.{MapText}
 use Rattle.bm_jobfile.specs.declared.map_table.MapText.TheVariants.{Permute, Walsh}
 use Rattle.bm_jobfile.specs.declared.reading.JobText.{JobText as Said}
 use Rattle.bm_jobfile.specs.JobText.{text_of}
-use Rattle.bm_jobfile.specs.MapJob.{IsJobOf, MapFaultIs, NamedFaultIs, NamedIsFaultless}
+use Rattle.bm_jobfile.specs.MapJob.{MapFaultIs, NamedFaultIs, NamedIsFaultless}
 use Rattle.bm_jobfile.specs.JobFile.{Says, IsNoDocument, HasFaultyField, HasBrokenRule, HasMapFault, IsJobFile}
 use Rattle.bm_base.specs.Count.{Rose}
 use Rattle.bm_rack.specs.Sink.{AppendsFront}
 use Rattle.bm_text.specs.PlanText.{plan_text}
 use Rattle.bm_top.specs.declared.status.Status.{Status}
 use Rattle.bm_top.specs.declared.status.Status.TheVariants.{Done, OutOfMemory, Usage, JobFault, JobText, JobField, JobShape, JobMap, DataFault, DataShort, DataLong, RackFault, NoDisks, WrongDims, Exists, SinkFault}
-use Rattle.bm_top.specs.PlanAnswers.{PlanJob, PlanSource, PlanOutput, IsPlanUnhindered, HasJobMapFault, IsJob, IsPlanWritten, IsPlanBegun}
-
--- the job of a file has the address bits of its shape
-pub job_has_bits : (s : Shape) (map : MapText) (job : Job) → IsJobOf s map job → HasBits s.n job
-job_has_bits s (Permute named complement) (job.Permute f) is = is.size
-job_has_bits s (Permute named complement) job.Walsh is = absurd is
-job_has_bits s Walsh (job.Permute f) is = absurd is
-job_has_bits s Walsh job.Walsh is = tt
+use Rattle.bm_top.specs.PlanAnswers.{PlanJob, PlanSource, PlanOutput, IsPlanUnhindered, HasJobMapFault, IsPlanWritten, IsPlanBegun}
 
 -- a text says one thing alone
 said_once : (text : List ℕ) (a b : Said) → Says text a → Says text b → a ≡ b
@@ -99,19 +89,7 @@ plan_is_complete _ _ NoDisks text _ _ _ _ _ _ j s o h = absurd j.of_plan
 plan_is_complete _ _ WrongDims text _ _ _ _ _ _ j s o h = absurd j.of_plan
 plan_is_complete _ _ Exists text _ _ _ _ _ _ j s o h = absurd j.of_plan
 
--- what was read of a text holds of the job source that held it
-pub job_of_source : (told : Type 0) (answer : Status) (text left : List ℕ) → (told → left ≡ text)
-    → PlanJob (Unit {0}) text answer → PlanJob told left answer
-job_of_source told answer text left same j = record {
-  of_plan = j.of_plan;
-  no_document = λ t e. subst IsNoDocument (sym (same t)) (j.no_document tt e);
-  field = λ t which e. subst (λ (x : List ℕ). HasFaultyField x which) (sym (same t)) (j.field tt which e);
-  rule = λ t rule e. subst (λ (x : List ℕ). HasBrokenRule x rule) (sym (same t)) (j.rule tt rule e);
-  map = λ t fault e. subst (λ (x : List ℕ). HasJobMapFault x fault) (sym (same t)) (j.map tt fault e);
-  job = λ t e. subst IsJob (sym (same t)) (j.job tt e);
-}
-
--- and so does what was written of it
+-- what was written of a text was written of the job source that held it
 pub output_of_source : (told told_out : Type 0) (answer : Status) (text left old new : List ℕ) (out out' : ℕ) → (told → left ≡ text)
     → PlanOutput told_out text answer old new out out' → PlanOutput (told × told_out) left answer old new out out'
 output_of_source told told_out answer text left old new out out' same o = record {

@@ -10,7 +10,7 @@ ghost use Rattle.bm_top.specs.StatusWords.{line_of};
 ghost use Rattle.bm_top.specs.RecordIo.{input_size};
 ghost use Rattle.bm_top.specs.Flip.{flipped};
 ghost use Rattle.bm_top.specs.FlipAnswers.{FlipInput, FlipOutput, FlipRack, IsUnhindered, IsOfWords};
-ghost use Rattle.bm_top.specs.PlanAnswers.{PlanJob, PlanSource, PlanOutput, IsPlanUnhindered};
+ghost use Rattle.bm_top.specs.PlanAnswers.{PlanJob, PlanSource, PlanOutput, IsAfterJob, IsPlanUnhindered};
 
 use crate::Status;
 use crate::commands::flip::run_flip;
@@ -50,6 +50,7 @@ fn run_command<R: Rack, J: Source, S: Source, K: Sink>(
         → PlanOutput (IsTrue J.tells × IsTrue K.tells) (J.left job.old) result
         (K.taken out.old) (K.taken out.new) (K.faults out.old) (K.faults out.new) }
     ensures plan_untouched { IsPlan words.now → (rack.new ≡ rack.old) × (input.new ≡ input.old) }
+    ensures plan_unwritten { IsPlan words.now → (out.new ≡ out.old) ⊎ IsAfterJob result }
     ensures job { ¬ IsPlan words.now → job.new ≡ job.old }
 {
     match command_of(words) {
@@ -117,6 +118,7 @@ pub fn bmmc_top<R: Rack, J: Source, S: Source, K: Sink, E: Sink>(
         → PlanOutput (IsTrue J.tells × IsTrue K.tells) (J.left job.old) result
         (K.taken out.old) (K.taken out.new) (K.faults out.old) (K.faults out.new) }
     ensures plan_untouched { IsPlan words.now → (rack.new ≡ rack.old) × (input.new ≡ input.old) }
+    ensures plan_unwritten { IsPlan words.now → (out.new ≡ out.old) ⊎ IsAfterJob result }
     ensures plan_complete { IsPlan words.now
         → IsPlanUnhindered (IsTrue J.tells) (J.left job.old)
         (J.faults job.old) (J.faults job.new) (K.faults out.old) (K.faults out.new)

@@ -1,6 +1,6 @@
 use Rattle.std.proofs.Common.{refl, rules}
 use Rattle.bm_jobfile.specs.JobFile.{HasMapFault}
-use Rattle.bm_top.proofs.PlanLemmas.{job_has_bits, job_map_faulty, job_written, job_refused, output_written, output_refused}
+use Rattle.bm_top.proofs.PlanLemmas.{job_map_faulty, job_written, job_refused, output_written, output_refused}
 use Rattle.bm_top.proofs.commands.plan.plan_of.Goals as goal
 
 pub returns-in-Ok-write_plan-clause-job : goal.returns-in-Ok-write_plan-clause-job
