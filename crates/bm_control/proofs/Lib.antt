@@ -1,0 +1,11 @@
+pub mod PageFrontLemmas
+pub mod BodyLemmas
+pub mod EqualLemmas
+pub mod JobBodyLemmas
+pub mod PageCallLemmas
+pub mod ImageLemmas
+pub mod JobStandsLemmas
+pub mod SoundLemmas
+pub mod StateLemmas
+pub mod MomentLemmas
+pub mod StartLemmas

@@ -1,0 +1,207 @@
+-- A rack while a job is opened.
+use Rattle.std.proofs.Common.{◌≡◌, ◌≢◌, ◌⊎◌, inl, inr, ℕ, ◌+◌, ◌*◌, ◌<◌, ◌≤◌, false, List, length, slice_get, get_or, Some, refl, sym, ◌∙◌, ap, subst, arith}
+use Rattle.std.specs.List.{slice_index_or}
+use Rattle.std.proofs.lemmas.Bool.{cases_eq}
+use Rattle.std.proofs.lemmas.Option.{slice_get_within, slice_get-get_or}
+use Rattle.bm_base.specs.declared.dims.Dims.{Dims}
+use Rattle.bm_base.specs.declared.shape.Shape.{Shape}
+use Rattle.bm_base.specs.Contents.{Contents, RackUnit, block_unit, page_unit, page_at, HasSizes}
+use Rattle.bm_base.specs.Gate.{open_gate, IsOpenGate, IsClosedGate}
+use Rattle.bm_base.specs.Shape.{dims_of}
+use Rattle.bm_rack.specs.RackView.{RackView, IsClean}
+use Rattle.bm_rack.specs.Image.{InEveryImage, IsInputUnit}
+use Rattle.bm_rack.specs.Frames.{DirtiesOnly}
+use Rattle.bm_rack.specs.Calls.{IsPage}
+use Rattle.bm_forms.specs.declared.job.Job.{Job}
+use Rattle.bm_forms.specs.declared.pass_form.PassForm.{PassForm}
+use Rattle.bm_forms.specs.Plan.{DoJob, all_passed}
+use Rattle.bm_control.specs.Bodies.{loads_of, padded, load_page, IsJobBody, IsPassBody}
+use Rattle.bm_control.specs.Consistent.{pass_body, pass_gate, slot_gate, input_of, JobStands}
+use Rattle.bm_control.specs.Moments.{PassesAreWritten, JobIsWritten}
+use Rattle.bm_control.specs.Sound.{IsSound}
+use Rattle.bm_control.proofs.EqualLemmas.{some_injective}
+use Rattle.bm_control.proofs.ImageLemmas.{Settled, settled_within, never_settled, open_settled, closed_settled, length-open_gate, image_self, image_of_clean, DiffersAt}
+use Rattle.bm_control.proofs.SoundLemmas.{sound_loaded, sound_page}
+use Rattle.bm_control.proofs.MomentLemmas.{load_unique}
+use Rattle.bm_control.specs.PageCalls.{IsPassPage, IsSlotGate, IsJobPage, IsStartPage}
+
+-- the pages of fewer passes are among those of more
+pub earlier_pages : (k : ℕ) (u : RackUnit) → IsPassPage k u → IsPassPage (k + 1) u
+earlier_pages k (block_unit disk place) is = is
+earlier_pages k (page_unit page) is = (let a = is.0 in a, let b = is.1 in omega (arith, b))
+
+-- and so are those of the last one
+pub own_pages : (k : ℕ) (u : RackUnit) → IsPage (4 + 2 * k) u ⊎ IsPage (5 + 2 * k) u → IsPassPage (k + 1) u
+own_pages k (block_unit disk place) (inl is) = is
+own_pages k (block_unit disk place) (inr is) = is
+own_pages k (page_unit page) (inl is) = (omega (arith, is), omega (arith, is))
+own_pages k (page_unit page) (inr is) = (omega (arith, is), omega (arith, is))
+
+-- no pages are written yet
+pub written_none : (s : Shape) (forms : List PassForm) (v : Contents) → PassesAreWritten s forms 0 v
+written_none s forms v = record { bodies = λ i pass h. absurd (omega (arith, h)); gates = λ i h. absurd (omega (arith, h)) }
+
+-- one more pass
+pub written_more : (s : Shape) (forms : List PassForm) (k : ℕ) (pass : PassForm) (old new : RackView) → slice_get forms k ≡ Some pass
+    → DirtiesOnly (λ u. IsPage (4 + 2 * k) u ⊎ IsPage (5 + 2 * k) u) old new
+    → IsPassBody s k (page_at new.contents (pass_body k)) pass → IsClosedGate (page_at new.contents (pass_gate k))
+    → PassesAreWritten s forms k old.contents → PassesAreWritten s forms (k + 1) new.contents
+written_more s forms k pass old new is w body gate before = record {
+  bodies = λ i other h there. elim (cases_eq i k) [
+    | inl same ↦
+        let one : pass ≡ other = some_injective pass other (sym is ∙ ap (slice_get forms) (sym same) ∙ there) in
+        subst (λ (x : ℕ). IsPassBody s x (page_at new.contents (pass_body x)) other) (sym same) (subst (IsPassBody s k (page_at new.contents (pass_body k))) one body)
+    | inr not ↦ subst (λ (p : List ℕ). IsPassBody s i p other) (sym (w.contents (page_unit (pass_body i)) (apart_body i not))) (before.bodies i other (omega (arith, h, not)) there)
+  ];
+  gates = λ i h. elim (cases_eq i k) [
+    | inl same ↦ subst (λ (x : ℕ). IsClosedGate (page_at new.contents (pass_gate x))) (sym same) gate
+    | inr not ↦ subst IsClosedGate (sym (w.contents (page_unit (pass_gate i)) (apart_gate i not))) (before.gates i (omega (arith, h, not)))
+  ];
+}
+  where
+    apart_body : (i : ℕ) → i ≢ k → ¬ (IsPage (4 + 2 * k) (page_unit (pass_body i)) ⊎ IsPage (5 + 2 * k) (page_unit (pass_body i)))
+    apart_body i not (inl e) = not (omega (arith, e))
+    apart_body i not (inr e) = omega (arith, e)
+
+    apart_gate : (i : ℕ) → i ≢ k → ¬ (IsPage (4 + 2 * k) (page_unit (pass_gate i)) ⊎ IsPage (5 + 2 * k) (page_unit (pass_gate i)))
+    apart_gate i not (inl e) = omega (arith, e)
+    apart_gate i not (inr e) = not (omega (arith, e))
+
+-- the pages of the passes are as before where the gates of the slots are changed
+pub passes_kept : (s : Shape) (forms : List PassForm) (k : ℕ) (old new : RackView) → k ≤ 254 → DirtiesOnly IsSlotGate old new → PassesAreWritten s forms k old.contents
+    → PassesAreWritten s forms k new.contents
+passes_kept s forms k old new few w before = record {
+  bodies = λ i pass h there. subst (λ (p : List ℕ). IsPassBody s i p pass) (sym (w.contents (page_unit (pass_body i)) (no_slot (pass_body i) (omega arith)))) (before.bodies i pass h there);
+  gates = λ i h. subst IsClosedGate (sym (w.contents (page_unit (pass_gate i)) (no_slot (pass_gate i) (omega arith)))) (before.gates i h);
+}
+  where
+    no_slot : (page : ℕ) → page < 513 → ¬ IsSlotGate (page_unit page)
+    no_slot page early (inl is) = omega (arith, early, is)
+    no_slot page early (inr is) = omega (arith, early, is)
+
+-- all pages of the job
+pub job_written : (s : Shape) (job : Job) (forms : List PassForm) (every : ℕ) (v : Contents) → IsJobBody s (page_at v 2) job (length forms) every
+    → PassesAreWritten s forms (length forms) v → (every < loads_of s → (IsClosedGate (page_at v 513)) × IsClosedGate (page_at v 515)) → JobIsWritten s job forms every v
+job_written s job forms every v body passes slots = record {
+  body = body;
+  bodies = λ k pass there. passes.bodies k pass (slice_get_within forms k pass there) there;
+  gates = passes.gates;
+  slots = λ less slot h. elim (cases_eq slot 0) [
+    | inl zero ↦ subst (λ (x : ℕ). IsClosedGate (page_at v (slot_gate x))) (sym zero) (slots less).0
+    | inr not ↦ (let one : slot ≡ 1 = omega arith in subst (λ (x : ℕ). IsClosedGate (page_at v (slot_gate x))) (sym one) (slots less).1)
+  ];
+}
+
+-- are as before where its gate is changed
+pub job_written_kept : (s : Shape) (job : Job) (forms : List PassForm) (every : ℕ) (old new : RackView) → DirtiesOnly (IsPage 3) old new
+    → JobIsWritten s job forms every old.contents → JobIsWritten s job forms every new.contents
+job_written_kept s job forms every old new w j = record {
+  body = subst (λ (p : List ℕ). IsJobBody s p job (length forms) every) (sym (w.contents (page_unit 2) (λ e. omega (arith, e)))) j.body;
+  bodies = λ k pass there. subst (λ (p : List ℕ). IsPassBody s k p pass) (sym (w.contents (page_unit (pass_body k)) (λ e. omega (arith, e)))) (j.bodies k pass there);
+  gates = λ k h. subst IsClosedGate (sym (w.contents (page_unit (pass_gate k)) (λ e. omega (arith, e)))) (j.gates k h);
+  slots = λ less slot h. subst IsClosedGate (sym (w.contents (page_unit (slot_gate slot)) (λ e. omega (arith, e)))) (j.slots less slot h);
+}
+
+-- a loaded rack with no job, up to the moment at which its gate is written
+pub record IsLoadedRack (s : Shape) (v : RackView) : Type 0 where
+  pub stands : v.stands ≡ Some (dims_of s)
+  pub load_gate : Settled IsOpenGate 1 v
+  pub load_body : Settled (λ p. p ≡ load_page s) 0 v
+  pub job_gate : Settled IsClosedGate 3 v
+  pub input : (u : RackUnit) → IsInputUnit (dims_of s) u → v.dirty u ≡ false
+
+-- an open gate is no load body
+gate_no_body : ¬ ((s : Shape) × (open_gate ≡ load_page s))
+unfolding open_gate load_page padded
+gate_no_body found =
+    let e : slice_index_or open_gate 4 0 ≡ slice_index_or (load_page found.0) 4 0 = ap (λ (p : List ℕ). slice_index_or p 4 0) found.1 in
+    omega (arith, e)
+
+-- at its beginning
+pub loaded_start : (s : Shape) (v : RackView) → v.stands ≡ Some (dims_of s) → HasSizes (dims_of s) v.contents → IsSound v
+    → InEveryImage (λ c. IsOpenGate (page_at c 1)) v → InEveryImage (λ c. IsClosedGate (page_at c 3)) v → page_at v.contents 0 ≡ load_page s → IsLoadedRack s v
+loaded_start s v stands sizes sound opened closed body =
+    let some = never_settled (λ p. (t : Shape) × (p ≡ load_page t)) v (dims_of s) 0 open_gate (omega arith) length-open_gate stands sizes gate_no_body
+    (λ dims image is i. (let l = (sound.consistent dims is dims image is i).loaded (opened dims image is i) in (l.shape, l.body))) in
+    record {
+      stands = stands;
+      load_gate = open_settled v (dims_of s) 1 (omega arith) stands sizes opened;
+      load_body = record { clean = some.clean; holds = body };
+      job_gate = closed_settled v (dims_of s) 3 (omega arith) stands sizes closed;
+      input = sound.input (dims_of s) v.contents stands (image_self v (dims_of s) sizes) (opened (dims_of s) v.contents stands (image_self v (dims_of s) sizes));
+    }
+
+-- no page of a job but its gate is one of these
+job_page_apart : (passes page : ℕ) (parts : Type 0) → page < 4 → page ≢ 2 → ¬ IsJobPage passes parts (page_unit page)
+job_page_apart passes page parts early not (inl is) = not is
+job_page_apart passes page parts early not (inr (inl is)) = (let a = is.0 in omega (arith, early, a))
+job_page_apart passes page parts early not (inr (inr is)) = elim is.1 [
+  | inl e ↦ omega (arith, early, e)
+  | inr e ↦ omega (arith, early, e)
+]
+
+input_no_job_page : (passes : ℕ) (parts : Type 0) (dims : Dims) (u : RackUnit) → IsInputUnit dims u → ¬ IsJobPage passes parts u
+input_no_job_page passes parts dims (block_unit disk place) input (inl is) = is
+input_no_job_page passes parts dims (block_unit disk place) input (inr (inl is)) = is
+input_no_job_page passes parts dims (block_unit disk place) input (inr (inr is)) = is.1
+input_no_job_page passes parts dims (page_unit page) input is = input
+
+-- while the job's pages are written
+pub loaded_within : (passes : ℕ) (parts : Type 0) (s : Shape) (old new : RackView) → DirtiesOnly (IsJobPage passes parts) old new → IsLoadedRack s old → IsLoadedRack s new
+loaded_within passes parts s old new w r = record {
+  stands = w.stands ∙ r.stands;
+  load_gate = settled_within IsOpenGate (IsJobPage passes parts) 1 old new w (job_page_apart passes 1 parts (omega arith) (λ e. omega (arith, e))) r.load_gate;
+  load_body = settled_within (λ p. p ≡ load_page s) (IsJobPage passes parts) 0 old new w (job_page_apart passes 0 parts (omega arith) (λ e. omega (arith, e))) r.load_body;
+  job_gate = settled_within IsClosedGate (IsJobPage passes parts) 3 old new w (job_page_apart passes 3 parts (omega arith) (λ e. omega (arith, e))) r.job_gate;
+  input = λ u is. w.dirty u (input_no_job_page passes parts (dims_of s) u is) (r.input u is);
+}
+
+-- the job gate alone
+pub job_gate_within : (passes : ℕ) (parts : Type 0) (old new : RackView) → DirtiesOnly (IsJobPage passes parts) old new → Settled IsClosedGate 3 old → Settled IsClosedGate 3 new
+job_gate_within passes parts old new w r = settled_within IsClosedGate (IsJobPage passes parts) 3 old new w (job_page_apart passes 3 parts (omega arith) (λ e. omega (arith, e))) r
+
+-- such a rack is sound
+pub loaded_sound : (s : Shape) (v : RackView) → IsLoadedRack s v → IsSound v
+loaded_sound s v r = sound_loaded v s r.stands r.load_body r.job_gate r.input
+
+-- the job stands where its pages do and its gate alone is changed
+started : (s : Shape) (job : Job) (forms : List PassForm) (every : ℕ) (a b : Contents) → DoJob forms s.n job → JobIsWritten s job forms every a
+    → DiffersAt 3 a b → JobStands s b
+unfolding all_passed
+started s job forms every a b does j d = record {
+  job = job;
+  forms = forms;
+  every = every;
+  body = subst (λ (p : List ℕ). IsJobBody s p job (length forms) every) (sym (d.pages 2 (λ e. omega (arith, e)))) j.body;
+  of_shape = λ k d h. (j.bodies k (get_or forms k d) (slice_get-get_or forms k d h)).of_shape;
+  bodies = λ k pass there. subst (λ (p : List ℕ). IsPassBody s k p pass) (sym (d.pages (pass_body k) (λ e. omega (arith, e)))) (j.bodies k pass there);
+  means = does (input_of b s);
+  done = 0;
+  gates = record {
+    few = omega arith;
+    opened = λ k h. absurd (omega (arith, h));
+    closed = λ k from h opened. j.gates k h (sym (d.pages (pass_gate k) (λ e. omega (arith, e))) ∙ opened);
+  };
+  work = λ x h. refl;
+  slots = λ less slot h opened. absurd (j.slots less slot h (sym (d.pages (slot_gate slot) (λ e. omega (arith, e))) ∙ opened));
+}
+
+-- while the gate of a job is written whose pages are on the disks
+pub sound_started : (s : Shape) (job : Job) (forms : List PassForm) (every : ℕ) (old new : RackView) → HasSizes (dims_of s) old.contents → IsClean old → IsLoadedRack s old
+    → DoJob forms s.n job → JobIsWritten s job forms every old.contents → DirtiesOnly (IsPage 3) old new → IsSound new
+sound_started s job forms every old new sizes clean r does j w =
+    sound_page 3 old new (dims_of s) (omega arith) (λ e. omega (arith, e)) r.stands sizes (loaded_sound s old r) w (λ before image was i d c.
+    let d' = image_of_clean 3 old new (dims_of s) image clean w i in
+    let zero = d'.pages 0 (λ e. omega (arith, e)) ∙ r.load_body.holds in
+    record {
+      loaded = λ gate. record { shape = s; body = zero; dims_are = refl };
+      after_load = λ gate. d'.pages 1 (λ e. omega (arith, e)) ∙ r.load_gate.holds;
+      job = λ gate t loaded. subst (λ (u : Shape). JobStands u image) (load_unique s t (page_at image 0) zero loaded) (started s job forms every old.contents image does j d');
+    })
+
+-- the frames of a start
+pub start_passes : (passes : ℕ) (parts : Type 0) (u : RackUnit) → IsJobPage passes parts u → IsStartPage passes parts u
+start_passes passes parts u is = inr is
+
+pub start_gate : (passes : ℕ) (parts : Type 0) (u : RackUnit) → IsPage 3 u → IsStartPage passes parts u
+start_gate passes parts u is = inl is

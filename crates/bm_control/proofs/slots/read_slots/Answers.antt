@@ -1,0 +1,30 @@
+use Rattle.std.proofs.Common.{◌<◌, Result, ℕ, sym, ◌∙◌, subst, arith}
+use Rattle.bm_control.specs.declared.state.ControlError.{ControlError}
+use Rattle.bm_control.specs.Bodies.{loads_of}
+use Rattle.bm_control.specs.State.{SlotsAnswer}
+use Rattle.bm_control.proofs.EqualLemmas.{error_is}
+use Rattle.bm_control.proofs.StateLemmas.{counted_both, slots_first_bad, slots_second_bad}
+use Rattle.bm_control.proofs.slots.read_slots.Goals as goal
+
+pub returns-in_err-first-clause-answer : goal.returns-in_err-first-clause-answer
+returns-in_err-first-clause-answer g c told v at =
+    let few = c.requires.every in
+    let less : c.args.every < loads_of c.args.shape.now = (let not = c.if-every-loads.false in let is = c.loads.ensures in omega (arith, few, not, is)) in
+    subst (λ (r : Result (ℕ × ℕ) ControlError). SlotsAnswer c.args.shape.now v c.args.passes c.args.done c.args.every r) (sym (error_is c.from_residual.result _ c.from_residual.ensures.1))
+    (slots_first_bad c.args.shape.now v c.args.passes c.args.done c.args.every _ less (c.in_err-first.ensures.answer told v at))
+
+pub returns-in_err-second-clause-answer : goal.returns-in_err-second-clause-answer
+returns-in_err-second-clause-answer g c told v at =
+    let few = c.requires.every in
+    let less : c.args.every < loads_of c.args.shape.now = (let not = c.if-every-loads.false in let is = c.loads.ensures in omega (arith, few, not, is)) in
+    subst (λ (r : Result (ℕ × ℕ) ControlError). SlotsAnswer c.args.shape.now v c.args.passes c.args.done c.args.every r)
+    (sym (error_is c.from_residual-in_err-second.result _ c.from_residual-in_err-second.ensures.1))
+    (slots_second_bad c.args.shape.now v c.args.passes c.args.done c.args.every _ less (c.in_ok-first.ensures.answer told v at).good
+    (c.in_err-second.ensures.answer told v (c.read_slot.ensures.state.contents ∙ at)))
+
+pub returns-clause-answer : goal.returns-clause-answer
+returns-clause-answer g c told v at =
+    let few = c.requires.every in
+    let less : c.args.every < loads_of c.args.shape.now = (let not = c.if-every-loads.false in let is = c.loads.ensures in omega (arith, few, not, is)) in
+    counted_both c.args.shape.now v c.args.passes c.args.done c.args.every _ _ _ _ less (c.in_ok-first.ensures.answer told v at)
+    (c.in_ok-second.ensures.answer told v (c.read_slot.ensures.state.contents ∙ at)) c.counted.ensures

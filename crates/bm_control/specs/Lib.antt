@@ -1,0 +1,9 @@
+pub mod PageFront
+pub mod Bodies
+pub mod Consistent
+pub mod Sound
+pub mod Progress
+pub mod State
+pub mod Moments
+pub mod StateCalls
+pub mod PageCalls

@@ -1,0 +1,95 @@
+//! Reading the control file.
+ghost use Rattle.std.specs.Prelude.{◌≡◌, ◌<◌, ◌+◌, ◌*◌, IsTrue, IfOk, IsErrOf};
+ghost use Rattle.bm_base.specs.Contents.{Contents, page_at};
+ghost use Rattle.bm_rack.specs.RackView.{IsAttached};
+ghost use Rattle.bm_rack.specs.Frames.{SameState, Keeps, HasCause, RaisesCounts};
+ghost use Rattle.bm_control.specs.Bodies.{IsPassBody};
+ghost use Rattle.bm_control.specs.State.{StateAnswer, JobAnswer, PassBodyAnswer};
+ghost use Rattle.bm_control.specs.StateCalls.{StateCalls, JobCalls};
+
+use crate::gates::is_gate;
+use crate::job_body::decode_job;
+use crate::load_body::decode_load;
+use crate::pass_body::decode_pass;
+use crate::pass_pages::read_passes;
+use crate::slots::read_slots;
+use crate::state::{ControlError, SlateState, page_of};
+use bm_base::Shape;
+use bm_forms::PassForm;
+use bm_rack::Rack;
+
+/// Reads what the control file tells, and changes nothing but counts.
+///
+/// It reads page 1, where it is open pages 0 and 3, where 3 is open page 2 and the pages of each
+/// pass in order, and where the job has slots 513 and 515, each followed by its body where it is open.
+/// The first page that is wrong is the answer.
+pub fn read_state<R: Rack>(rack: &mut R) -> Result<SlateState, ControlError>
+    requires { IsAttached (R.view rack.old).attached }
+    ensures answer { IsTrue R.tells_contents → StateAnswer (R.view rack.old).contents result }
+    ensures state { SameState (R.view rack.old) (R.view rack.new) }
+    ensures counts { StateCalls result (R.view rack.old) (R.view rack.new) }
+    ensures keeps { Keeps (R.view rack.old) (R.view rack.new) }
+    ensures cause { HasCause (IsErrOf result ControlError.Failed) (R.view rack.old) (R.view rack.new) }
+{
+    let load_gate = page_of(rack, 1)?;
+    if !is_gate(&load_gate) {
+        return Ok(SlateState::Closed);
+    }
+    let load_body = page_of(rack, 0)?;
+    let Some(shape) = decode_load(&load_body) else {
+        return Err(ControlError::BadPage { page: 0 });
+    };
+    let job_gate = page_of(rack, 3)?;
+    if !is_gate(&job_gate) {
+        return Ok(SlateState::Loaded { shape });
+    }
+    read_job_state(rack, &shape)
+}
+
+// Reads the pages of an open job.
+fn read_job_state<R: Rack>(rack: &mut R, shape: &Shape) -> Result<SlateState, ControlError>
+    requires { IsAttached (R.view rack.old).attached }
+    ensures answer { IsTrue R.tells_contents → (v : Contents) → (R.view rack.old).contents ≡ v
+        → JobAnswer shape.now v result }
+    ensures state { SameState (R.view rack.old) (R.view rack.new) }
+    ensures counts { JobCalls result (R.view rack.old) (R.view rack.new) }
+    ensures keeps { Keeps (R.view rack.old) (R.view rack.new) }
+    ensures cause { HasCause (IsErrOf result ControlError.Failed) (R.view rack.old) (R.view rack.new) }
+{
+    let body = page_of(rack, 2)?;
+    let Some(found) = decode_job(shape, &body) else {
+        return Err(ControlError::BadPage { page: 2 });
+    };
+    let (job, passes, every) = found;
+    let done = read_passes(rack, shape, passes)?;
+    let (part, slot) = read_slots(rack, shape, passes, done, every)?;
+    Ok(SlateState::Working {
+        shape: *shape,
+        job,
+        passes,
+        done,
+        every,
+        part,
+        slot,
+    })
+}
+
+/// Reads the body of pass k + 1, and changes nothing but counts. k is below 256.
+///
+/// `BadPage` where it is no pass's body for this shape.
+pub fn read_pass<R: Rack>(rack: &mut R, shape: &Shape, k: u16) -> Result<PassForm, ControlError>
+    requires ready { IsAttached (R.view rack.old).attached }
+    requires number { k < 256 }
+    ensures answer { IsTrue R.tells_contents
+        → PassBodyAnswer shape.now k (page_at (R.view rack.old).contents (4 + 2 * k)) result }
+    ensures state { SameState (R.view rack.old) (R.view rack.new) }
+    ensures counts { RaisesCounts 0 1 0 (R.view rack.old) (R.view rack.new) }
+    ensures keeps { Keeps (R.view rack.old) (R.view rack.new) }
+    ensures cause { HasCause (IsErrOf result ControlError.Failed) (R.view rack.old) (R.view rack.new) }
+{
+    let body = page_of(rack, 4 + 2 * k)?;
+    match decode_pass(shape, k, &body) {
+        Some(pass) => Ok(pass),
+        None => Err(ControlError::BadPage { page: 4 + 2 * k }),
+    }
+}
