@@ -9,7 +9,7 @@ use Rattle.bm_control.specs.declared.state.SlateState.{SlateState}
 use Rattle.bm_control.specs.declared.state.SlateState.TheVariants.{Closed, Loaded, Working}
 use Rattle.bm_control.specs.declared.state.ControlError.{ControlError}
 use Rattle.bm_control.specs.declared.state.ControlError.TheVariants.{Failed, BadPage}
-use Rattle.bm_control.specs.Bodies.{loads_of, load_page, IsJobBody, IsPassBody, IsPartBody}
+use Rattle.bm_control.specs.Bodies.{loads_of, load_page, JobBodyFits, IsJobBody, IsPassBody, IsPartBody}
 use Rattle.bm_control.specs.Consistent.{pass_body, pass_gate, slot_body, slot_gate, GatesAre}
 use Rattle.bm_control.specs.Progress.{Counts, IsCounted}
 
@@ -158,3 +158,10 @@ abbrev pub PassBodyAnswer : Shape → ℕ → List ℕ → Result PassForm Contr
 PassBodyAnswer s k page (Ok pass) = IsPassBody s k page pass
 PassBodyAnswer s k page (Err Failed) = Unit {0}
 PassBodyAnswer s k page (Err (BadPage bad)) = (bad ≡ pass_body k) × ((pass : PassForm) → ¬ IsPassBody s k page pass)
+
+-- The numbers of a state keep their ranges, on every rack, told or not: a job's are those of a job body, and no more
+-- passes are done than there are.
+abbrev pub StateFits : SlateState → Type 0
+StateFits Closed = Unit {0}
+StateFits (Loaded s) = Unit {0}
+StateFits (Working s job passes done every part slot) = JobBodyFits s job passes every × (done ≤ passes)

@@ -1,10 +1,11 @@
 //! Reading the control file.
 ghost use Rattle.std.specs.Prelude.{◌≡◌, ◌<◌, ◌+◌, ◌*◌, IsTrue, IfOk, IsErrOf};
 ghost use Rattle.bm_base.specs.Contents.{Contents, page_at};
+ghost use Rattle.bm_forms.specs.PassForm.{IsOfShape};
 ghost use Rattle.bm_rack.specs.RackView.{IsAttached};
 ghost use Rattle.bm_rack.specs.Frames.{SameState, Keeps, HasCause, RaisesCounts};
 ghost use Rattle.bm_control.specs.Bodies.{IsPassBody};
-ghost use Rattle.bm_control.specs.State.{StateAnswer, JobAnswer, PassBodyAnswer};
+ghost use Rattle.bm_control.specs.State.{StateAnswer, StateFits, JobAnswer, PassBodyAnswer};
 ghost use Rattle.bm_control.specs.StateCalls.{StateCalls, JobCalls};
 
 use crate::gates::is_gate;
@@ -26,6 +27,7 @@ use bm_rack::Rack;
 pub fn read_state<R: Rack>(rack: &mut R) -> Result<SlateState, ControlError>
     requires { IsAttached (R.view rack.old).attached }
     ensures answer { IsTrue R.tells_contents → StateAnswer (R.view rack.old).contents result }
+    ensures fits { IfOk result StateFits }
     ensures state { SameState (R.view rack.old) (R.view rack.new) }
     ensures counts { StateCalls result (R.view rack.old) (R.view rack.new) }
     ensures keeps { Keeps (R.view rack.old) (R.view rack.new) }
@@ -51,6 +53,7 @@ fn read_job_state<R: Rack>(rack: &mut R, shape: &Shape) -> Result<SlateState, Co
     requires { IsAttached (R.view rack.old).attached }
     ensures answer { IsTrue R.tells_contents → (v : Contents) → (R.view rack.old).contents ≡ v
         → JobAnswer shape.now v result }
+    ensures fits { IfOk result StateFits }
     ensures state { SameState (R.view rack.old) (R.view rack.new) }
     ensures counts { JobCalls result (R.view rack.old) (R.view rack.new) }
     ensures keeps { Keeps (R.view rack.old) (R.view rack.new) }
@@ -82,6 +85,7 @@ pub fn read_pass<R: Rack>(rack: &mut R, shape: &Shape, k: u16) -> Result<PassFor
     requires number { k < 256 }
     ensures answer { IsTrue R.tells_contents
         → PassBodyAnswer shape.now k (page_at (R.view rack.old).contents (4 + 2 * k)) result }
+    ensures of_shape { IfOk result (λ pass. IsOfShape shape.now pass) }
     ensures state { SameState (R.view rack.old) (R.view rack.new) }
     ensures counts { RaisesCounts 0 1 0 (R.view rack.old) (R.view rack.new) }
     ensures keeps { Keeps (R.view rack.old) (R.view rack.new) }

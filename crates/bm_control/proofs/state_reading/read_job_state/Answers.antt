@@ -82,3 +82,8 @@ returns-clause-answer g c told v at =
         counted = found.counted;
       },
     )
+
+pub returns-clause-fits : goal.returns-clause-fits
+returns-clause-fits g c =
+    let body = (c.in-Some.ensures c.in-Some.found.0 c.in-Some.found.1 c.in-Some.found.2).0 refl in
+    (body.fits, c.in_ok-done.ensures.done)
