@@ -3,3 +3,4 @@ pub mod Lends
 pub mod Places
 pub mod Placing
 pub mod Runs
+pub mod Tiles

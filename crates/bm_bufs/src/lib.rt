@@ -5,6 +5,8 @@ mod bufs;
 mod placing;
 mod record_copy;
 mod runs;
+mod tile_map;
 
 pub use bufs::Bufs;
 pub use placing::Placing;
+pub use tile_map::TileMap;
