@@ -35,5 +35,5 @@ pub struct TileMap {
     pub ghost runs: { HasRunBasis basis low },
     pub ghost tiles: { KeepsTiles back back_plus tile },
     pub ghost origins: { (y : ℕ) → y < 2 ^ placing.a.n
-        → HasOrigin placing.a placing.plus basis back back_plus y },
+        → ∥ HasOrigin placing.a placing.plus basis back back_plus y ∥₁ },
 }

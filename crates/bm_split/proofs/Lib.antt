@@ -1,0 +1,2 @@
+pub mod RunMapLemmas
+pub mod StepLemmas

@@ -1,0 +1,98 @@
+-- Maps that keep the low bits of a number.
+use Rattle.std.proofs.Common.{◌≡◌, ◌≢◌, ℕ, ◌+◌, ◌-◌, ◌*◌, ◌/◌, ◌%◌, ◌^◌, ◌<◌, ◌≤◌, List, length, set, length-set, get_or-set_other, get_or-set_same, slice_index, refl, sym, ap, ◌∙◌, subst, arith, ⊎_elim}
+use Rattle.std.proofs.lemmas.Nat.{shl_below, shr_below, one_shl, pow_below, pow-add}
+use Rattle.std.proofs.lemmas.Bool.{cases_lt, cases_eq}
+use Rattle.std.proofs.Math.Nat.{mod-eq_of_lt, mul-mod_left}
+use Rattle.std.proofs.Math.Pow.{pow_mono}
+use Rattle.bm_gf2.specs.declared.matrix.Matrix.{Matrix}
+use Rattle.bm_gf2.specs.Matrix.{column}
+use Rattle.bm_gf2.proofs.VectorLemmas.{set_below, set_rest}
+use Rattle.bm_bufs.specs.Runs.{KeepsRuns}
+use Rattle.bm_bufs.specs.Tiles.{HasRunBasis}
+use Rattle.bm_split.specs.RunMap.{IsRunMap}
+
+-- the rows above, put back as code does it
+pub put_back : (v n low : ℕ) → n ≤ 52 → low ≤ n → v < 2 ^ (n - low)
+    → (v * 2 ^ low % 18446744073709551616 ≡ v * 2 ^ low) × (v * 2 ^ low < 2 ^ n)
+put_back v n low few l h =
+    let e : (n - low) + low ≡ n = omega arith in
+    let s : v * 2 ^ low < 2 ^ n = subst (λ k. v * 2 ^ low < 2 ^ k) e (shl_below v (n - low) low h) in
+    let most : 2 ^ n ≤ 18446744073709551616 = pow_mono {i = n} {j = 64} (omega arith) in
+    (mod-eq_of_lt (omega arith), s)
+
+-- the rows from low on
+pub cut_above : (n low x : ℕ) → low ≤ n → x < 2 ^ n → x / 2 ^ low < 2 ^ (n - low)
+cut_above n low x l h = let e : (n - low) + low ≡ n = omega arith in shr_below x (n - low) low (subst (λ k. x < 2 ^ k) (sym e) h)
+
+-- a power of two that code shifts to
+pub one_shifted : (k : ℕ) → k ≤ 52 → 1 * 2 ^ k % 18446744073709551616 ≡ 2 ^ k
+one_shifted k l = one_shl k 64 (omega arith)
+
+-- .. below another
+pub unit_in : (k n : ℕ) → k < n → n ≤ 52 → (1 * 2 ^ k % 18446744073709551616 ≡ 2 ^ k) × (2 ^ k < 2 ^ n)
+unit_in k n h l = (one_shifted k (omega arith), pow_below k n h)
+
+-- columns from low on have no low bits
+pub run_basis : (a : Matrix) (low : ℕ) (tops : List ℕ) → low < a.n → IsRunMap a low tops → HasRunBasis a low
+run_basis a low tops inside is = record {
+  units = is.units;
+  lows = λ j l.
+      ⊎_elim
+      (λ (p : j < low). ap (λ c. c % 2 ^ low) (is.units j p))
+      (λ (p : low ≤ j).
+      let e : low + (j - low) ≡ j = omega arith in
+      let g : (j - low) + low ≡ j = omega arith in
+      ap (λ c. c % 2 ^ low) (ap (column a) (sym e) ∙ is.others (j - low) (omega arith))
+      ∙ mul-mod_left (slice_index tops (j - low)) (2 ^ low)
+      ∙ sym (ap (λ c. c % 2 ^ low) (ap (λ c. 2 ^ c) (sym g) ∙ pow-add 2 (j - low) low) ∙ mul-mod_left (2 ^ (j - low)) (2 ^ low)))
+      (cases_lt j low);
+}
+
+-- so the map keeps runs, with a constant that has no low bits
+pub run_map_keeps : (a : Matrix) (low plus : ℕ) (tops : List ℕ) → low < a.n → IsRunMap a low tops → plus % 2 ^ low ≡ 0
+    → KeepsRuns a plus low
+run_map_keeps a low plus tops inside is clear = record {
+  inside = inside;
+  units = is.units;
+  others = λ j l h.
+      let e : low + (j - low) ≡ j = omega arith in
+      ap (λ c. c % 2 ^ low) (ap (column a) (sym e) ∙ is.others (j - low) (omega arith))
+      ∙ mul-mod_left (slice_index tops (j - low)) (2 ^ low);
+  constant = clear;
+}
+
+-- the constant of the first step, as code makes it: without low bits, and no longer
+pub cut_constant : (plus n low : ℕ) → n ≤ 52 → low ≤ n → plus < 2 ^ n
+    → (plus / 2 ^ low * 2 ^ low % 18446744073709551616 % 2 ^ low ≡ 0) × (plus / 2 ^ low * 2 ^ low % 18446744073709551616 < 2 ^ n)
+cut_constant plus n low few l h =
+    let b = put_back (plus / 2 ^ low) n low few l (cut_above n low plus l h) in
+    (ap (λ c. c % 2 ^ low) b.0 ∙ mul-mod_left (plus / 2 ^ low) (2 ^ low), subst (λ c. c < 2 ^ n) (sym b.0) b.1)
+
+-- columns low..low+i-1 stand, and the other ones are units
+pub record IsRunColumns (n low i : ℕ) (tops cols : List ℕ) : Type 0 where
+  pub long : length cols ≡ 52
+  pub units : (k : ℕ) → k < low → slice_index cols k ≡ 2 ^ k
+  pub others : (k : ℕ) → k < i → slice_index cols (low + k) ≡ slice_index tops k * 2 ^ low
+  pub below : (k : ℕ) → k < n → slice_index cols k < 2 ^ n
+  pub rest : (k : ℕ) → n ≤ k → slice_index cols k ≡ 0
+
+-- one more stands
+pub run_columns_more : (n low i at v : ℕ) (tops cols : List ℕ) → IsRunColumns n low i tops cols → at ≡ low + i → low + i < n → n ≤ 52
+    → v ≡ slice_index tops i * 2 ^ low → v < 2 ^ n → IsRunColumns n low (i + 1) tops (set cols at v)
+run_columns_more n low i at v tops cols is here inside few v_is v_in =
+    let long = is.long in
+    let other : (k : ℕ) → k ≢ at → slice_index (set cols at v) k ≡ slice_index cols k = λ k ne. rw get_or-set_other refl in
+    record {
+      long = length-set cols at v ∙ is.long;
+      units = λ k l. let ne : k ≢ at = omega arith in other k ne ∙ is.units k l;
+      others = λ k l.
+          ⊎_elim
+          (λ (e : k ≡ i).
+          let q : low + k ≡ at = omega arith in
+          let room : at < length cols = omega arith in
+          rw q (rw get_or-set_same (v_is ∙ ap (λ c. slice_index tops c * 2 ^ low) (sym e))))
+          (λ (e : k ≢ i). let ne : low + k ≢ at = omega arith in other (low + k) ne ∙ is.others k (omega arith))
+          (cases_eq k i);
+      below = set_below cols n (2 ^ n) at v (omega arith) is.below (omega arith) v_in;
+      rest = set_rest cols n at v is.rest (omega arith);
+    }

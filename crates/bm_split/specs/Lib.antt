@@ -1,0 +1,3 @@
+pub mod RunMap
+pub mod Splits
+pub mod Locality
