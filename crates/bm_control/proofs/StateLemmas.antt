@@ -1,5 +1,5 @@
 -- What the control file tells, page by page.
-use Rattle.std.proofs.Common.{Ok, Err, ◌≡◌, ◌⊎◌, inl, inr, ⊎_elim, ℕ, ◌+◌, ◌<◌, ◌≤◌, List, Option, Some, None, Result, refl, sym, ◌∙◌, ap, subst, arith}
+use Rattle.std.proofs.Common.{Ok, Err, ◌≡◌, ◌⊎◌, inl, inr, ⊎_elim, ℕ, ◌+◌, ◌<◌, ◌≤◌, List, Option, Some, None, IfSome, Result, refl, sym, ◌∙◌, ap, subst, arith}
 use Rattle.std.proofs.lemmas.Bool.{cases_lt, cases_eq}
 use Rattle.bm_base.specs.declared.shape.Shape.{Shape}
 use Rattle.bm_base.specs.Contents.{Contents, page_at}
@@ -12,7 +12,7 @@ use Rattle.bm_control.specs.declared.state.ControlError.TheVariants.{Failed, Bad
 use Rattle.bm_control.specs.Bodies.{loads_of, IsJobBody, IsPartBody}
 use Rattle.bm_control.specs.Consistent.{pass_gate, slot_body, slot_gate, GatesAre}
 use Rattle.bm_control.specs.Progress.{Counts}
-use Rattle.bm_control.specs.State.{HasPassBody, PassesStand, PassRead, PassAnswer, PassesAnswer, SlotRead, SlotAnswer, SlotsAnswer, SlotsRead, IsGoodSlot, CountedOf, IsWorking, IsJobOpen, JobAnswer, StateAnswer}
+use Rattle.bm_control.specs.State.{HasPassBody, PassesStand, PassRead, PassAnswer, PassesAnswer, SlotRead, SlotAnswer, SlotsAnswer, SlotsRead, IsGoodSlot, CountedOf, CountFits, PartFits, IsWorking, IsJobOpen, JobAnswer, StateAnswer}
 use Rattle.std.proofs.Math.Path.{subst₂}
 use Rattle.bm_control.proofs.BodyLemmas.{part_numbers}
 use Rattle.bm_control.proofs.EqualLemmas.{some_injective, none_some}
@@ -130,6 +130,26 @@ counted_both s v passes done every part slot one two less first second of = reco
       | inl none ↦ absurd (none_some loads (sym (of.none none).1 ∙ is))
       | inr (inl zero) ↦ (omega (arith, zero), (of.zero zero).1 loads is)
       | inr (inr one) ↦ (omega (arith, one), (let e = some_injective part loads (sym (of.one one).0 ∙ is) in omega (arith, e)))
+    ]
+
+-- the ranges of what is counted
+pub counted_fits : (s : Shape) (passes done every part slot : ℕ) (one two : Option ℕ) → every < loads_of s → IfSome one (λ loads. CountFits s passes done loads)
+    → IfSome two (λ loads. CountFits s passes done loads) → CountedOf one two part slot → PartFits s passes done every part slot
+counted_fits s passes done every part slot one two less first second of = record {
+  range = of.range;
+  nothing = λ is. (of.none is).2;
+  counts = λ h. count h;
+  parts = λ _. less;
+  whole = λ same. absurd (omega (arith, less, same));
+  few = ⊎_elim (λ (h : slot < 2). (count h).loads_few)
+      (λ (h : 2 ≤ slot). (let r = of.range in let z = (of.none (omega (arith, h, r))).2 in omega (arith, less, z)))
+      (cases_lt slot 2);
+}
+  where
+    count : slot < 2 → CountFits s passes done part
+    count h = elim (two_cases slot h) [
+      | inl zero ↦ subst (λ (found : Option ℕ). IfSome found (λ loads. CountFits s passes done loads)) (of.zero zero).0 first
+      | inr one ↦ subst (λ (found : Option ℕ). IfSome found (λ loads. CountFits s passes done loads)) (of.one one).0 second
     ]
 
 -- a page is one part body at most

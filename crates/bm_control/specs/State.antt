@@ -159,9 +159,30 @@ PassBodyAnswer s k page (Ok pass) = IsPassBody s k page pass
 PassBodyAnswer s k page (Err Failed) = Unit {0}
 PassBodyAnswer s k page (Err (BadPage bad)) = (bad ≡ pass_body k) × ((pass : PassForm) → ¬ IsPassBody s k page pass)
 
--- The numbers of a state keep their ranges, on every rack, told or not: a job's are those of a job body, and no more
--- passes are done than there are.
+-- the loads that a slot counts are some and not all of a pass, and that pass is one of the job's
+pub record CountFits (s : Shape) (passes done loads : ℕ) : Type 0 where
+  pub loads_some : 1 ≤ loads
+  pub loads_few : loads < loads_of s
+  pub under_way : done < passes
+
+-- The counted slot and its loads keep their ranges: where no slot is counted the slot is 2 and the loads are 0, and a job without slots
+-- counts none.
+pub record PartFits (s : Shape) (passes done every part slot : ℕ) : Type 0 where
+  pub range : slot ≤ 2
+  pub nothing : slot ≡ 2 → part ≡ 0
+  pub counts : slot < 2 → CountFits s passes done part
+  pub parts : slot < 2 → every < loads_of s
+  pub whole : every ≡ loads_of s → slot ≡ 2
+  pub few : part < loads_of s
+
+-- the numbers of an open job keep their ranges: those of its body, no more passes done than there are, and the counted slot's
+pub record WorkingFits (s : Shape) (job : Job) (passes done every part slot : ℕ) : Type 0 where
+  pub body : JobBodyFits s job passes every
+  pub done_few : done ≤ passes
+  pub counted : PartFits s passes done every part slot
+
+-- The numbers of a state keep their ranges, on every rack, told or not.
 abbrev pub StateFits : SlateState → Type 0
 StateFits Closed = Unit {0}
 StateFits (Loaded s) = Unit {0}
-StateFits (Working s job passes done every part slot) = JobBodyFits s job passes every × (done ≤ passes)
+StateFits (Working s job passes done every part slot) = WorkingFits s job passes done every part slot

@@ -1,11 +1,11 @@
 //! Reading the slots, which count loads of the pass under way.
-ghost use Rattle.std.specs.Prelude.{◌≡◌, ◌<◌, ◌≤◌, ◌+◌, ℕ, IsTrue, IsOk, IsErrOf};
+ghost use Rattle.std.specs.Prelude.{◌≡◌, ◌<◌, ◌≤◌, ◌+◌, ℕ, IsTrue, IsOk, IfOk, IfSome, IsErrOf};
 ghost use Rattle.bm_base.specs.Contents.{Contents};
 ghost use Rattle.bm_rack.specs.RackView.{IsAttached};
 ghost use Rattle.bm_rack.specs.Frames.{SameState, Keeps, HasCause};
 ghost use Rattle.bm_control.specs.Bodies.{loads_of};
 ghost use Rattle.bm_control.specs.PageCalls.{ReadsPages};
-ghost use Rattle.bm_control.specs.State.{SlotAnswer, SlotsAnswer, CountedOf};
+ghost use Rattle.bm_control.specs.State.{SlotAnswer, SlotsAnswer, CountedOf, CountFits, PartFits};
 
 use crate::gates::is_gate;
 use crate::part_body::decode_part;
@@ -30,6 +30,7 @@ fn read_slot<R: Rack>(
     requires done { done ≤ 254 }
     ensures answer { IsTrue R.tells_contents → (v : Contents) → (R.view rack.old).contents ≡ v
         → SlotAnswer shape.now v passes done slot result }
+    ensures fits { IfOk result (λ found. IfSome found (λ loads. CountFits shape.now passes done loads)) }
     ensures state { SameState (R.view rack.old) (R.view rack.new) }
     ensures counts { ReadsPages 0 2 (R.view rack.old) (R.view rack.new) }
     ensures keeps { Keeps (R.view rack.old) (R.view rack.new) }
@@ -87,6 +88,7 @@ pub fn read_slots<R: Rack>(
     requires every { every ≤ loads_of shape.now }
     ensures answer { IsTrue R.tells_contents → (v : Contents) → (R.view rack.old).contents ≡ v
         → SlotsAnswer shape.now v passes done every result }
+    ensures fits { IfOk result (λ r. PartFits shape.now passes done every r.0 r.1) }
     ensures state { SameState (R.view rack.old) (R.view rack.new) }
     ensures counts { ReadsPages 0 4 (R.view rack.old) (R.view rack.new) }
     ensures none { every ≡ loads_of shape.now → ReadsPages 0 0 (R.view rack.old) (R.view rack.new) }

@@ -20,3 +20,12 @@ returns-clause-answer g c told v at =
     (sym gate ∙ c.is_gate.ensures.0 c.if-not-is_gate.false)
     (subst (λ (p : List ℕ). IsPartBody c.args.shape.now p c.in-Some.pass c.in-Some.loads) page ((c.in-Some.ensures c.in-Some.pass c.in-Some.loads).0 refl))
     c.if-pass-passes.false (omega (arith, c.if-pass-done-2.false, c.if-pass-done.false))
+
+pub returns-clause-fits : goal.returns-clause-fits
+returns-clause-fits g c =
+    let body = (c.in-Some.ensures c.in-Some.pass c.in-Some.loads).0 refl in
+    record {
+      loads_some = body.fits.loads_some;
+      loads_few = body.fits.loads_few;
+      under_way = omega (arith, c.if-pass-passes.false, c.if-pass-done-2.false);
+    }

@@ -86,4 +86,4 @@ returns-clause-answer g c told v at =
 pub returns-clause-fits : goal.returns-clause-fits
 returns-clause-fits g c =
     let body = (c.in-Some.ensures c.in-Some.found.0 c.in-Some.found.1 c.in-Some.found.2).0 refl in
-    (body.fits, c.in_ok-done.ensures.done)
+    record { body = body.fits; done_few = c.in_ok-done.ensures.done; counted = c.in_ok-part.ensures.fits }
