@@ -1,2 +1,4 @@
 pub mod PlacesLemmas
 pub mod RunLemmas
+pub mod StepLemmas
+pub mod TileLemmas

@@ -17,7 +17,7 @@ use Rattle.bm_bufs.specs.Places.{places_by, PlacesRecords}
 use Rattle.bm_bufs.specs.Runs.{KeepsRuns, IsRunMatrix}
 
 -- the first number of a run has no low bits
-first_clear : (r low : ℕ) → r * 2 ^ low % 2 ^ low ≡ 0
+pub first_clear : (r low : ℕ) → r * 2 ^ low % 2 ^ low ≡ 0
 first_clear r low = ap (λ x. x % 2 ^ low) (let e : r * 2 ^ low ≡ r * 2 ^ low + 0 = omega arith in e)
     ∙ mod-mul-add r (2 ^ low) 0 (pow_pos low)
 
@@ -111,7 +111,7 @@ chunk_of_run width size i j xs small =
     ∙ ap (λ k. take width (drop k xs)) (let e : i * (size * width) + j * width ≡ (i * size + j) * width = omega arith in e)
 
 -- a record of a run that was copied whole
-chunk_copied : (width size i k j : ℕ) (xs ys : List ℕ) → j < size → slice_chunk xs (size * width) i ≡ slice_chunk ys (size * width) k
+pub chunk_copied : (width size i k j : ℕ) (xs ys : List ℕ) → j < size → slice_chunk xs (size * width) i ≡ slice_chunk ys (size * width) k
     → slice_chunk xs width (i * size + j) ≡ slice_chunk ys width (k * size + j)
 chunk_copied width size i k j xs ys small same =
     sym (chunk_of_run width size i j xs small) ∙ ap (λ zs. slice_chunk zs width j) same ∙ chunk_of_run width size k j ys small
@@ -193,7 +193,7 @@ PlacesRecords-runs a runs plus low width first count row old new keeps is first_
     }
 
 -- 2 ^ n records are 2 ^ (n - low) runs
-run_count : (n low : ℕ) → low ≤ n → 2 ^ n ≡ 2 ^ (n - low) * 2 ^ low
+pub run_count : (n low : ℕ) → low ≤ n → 2 ^ n ≡ 2 ^ (n - low) * 2 ^ low
 run_count n low few = ap (λ k. 2 ^ k) (let e : n ≡ n - low + low = omega arith in e) ∙ pow-add 2 (n - low) low
 
 -- the runs of a load

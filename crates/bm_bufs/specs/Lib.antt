@@ -4,3 +4,4 @@ pub mod Places
 pub mod Placing
 pub mod Runs
 pub mod Tiles
+pub mod TileMoves

@@ -5,6 +5,8 @@ ghost use Rattle.std.specs.Borrow.{sem};
 
 use crate::placing::Placing;
 use crate::record_copy::{place_in_runs, place_in_runs_w};
+use crate::tile_map::TileMap;
+use crate::tile_moves::settle_tiles;
 use bm_base::{OutOfMemory, Shape};
 use std::alloc::Global;
 use std::marker::Model;
@@ -47,6 +49,7 @@ impl Bufs {
     ghost use Rattle.bm_bufs.specs.Bufs.{FitsShape};
     ghost use Rattle.bm_bufs.specs.Lends.{LendsLoad, LendsRow};
     ghost use Rattle.bm_bufs.specs.Placing.{HasPlaces, PlacesRow};
+    ghost use Rattle.bm_bufs.specs.TileMoves.{HasRoom, MovesLoad};
 
     /// Buffers for a shape, or `OutOfMemory` where memory is refused.
     pub fn new(alloc: Global, shape: &Shape) -> Result<Bufs, OutOfMemory>
@@ -139,5 +142,14 @@ impl Bufs {
             first,
             count,
         );
+    }
+    /// Moves the record of each place of the load list to where the map's placing sends it.
+    ///
+    /// The row list is scratch: it may hold anything afterwards. The two lists keep their lengths.
+    pub fn settle(&mut self, tiles: &TileMap)
+        requires room { HasRoom tiles.now self.old }
+        ensures moved { MovesLoad tiles.now.placing self.old self.new }
+    {
+        settle_tiles(&mut self.load, &mut self.row, tiles);
     }
 }

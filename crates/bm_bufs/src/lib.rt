@@ -6,6 +6,8 @@ mod placing;
 mod record_copy;
 mod runs;
 mod tile_map;
+mod tile_moves;
+mod tile_steps;
 
 pub use bufs::Bufs;
 pub use placing::Placing;

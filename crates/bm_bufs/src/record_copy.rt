@@ -8,9 +8,9 @@ ghost use Rattle.bm_bufs.specs.Places.{places_by, PlacesRecords};
 use crate::runs::{run_bits, run_matrix};
 use bm_gf2::{Matrix, Stepper};
 
-// Copies record j of one list over record i of another.
+/// Copies record j of one list over record i of another.
 #[tactic(auto, using(bm_base::proofs::ChunkLemmas::chunk_other))]
-fn copy_record(to: &mut [u8], i: usize, from: &[u8], j: usize, width: usize)
+pub fn copy_record(to: &mut [u8], i: usize, from: &[u8], j: usize, width: usize)
     requires to { (i + 1) * width ≤ length to.old }
     requires from { (j + 1) * width ≤ length from.now }
     ensures copied { slice_chunk to.new width i ≡ slice_chunk from.now width j }
@@ -33,10 +33,10 @@ fn record_array<const W: usize>(from: &[u8], j: usize) -> [u8; W]
     record
 }
 
-// The same for a width that is known beforehand. The record goes through an array of its own, so
-// that the copy into it and the one out of it need no test for lists that overlap.
+/// The same for a width that is known beforehand. The record goes through an array of its own, so
+/// that the copy into it and the one out of it need no test for lists that overlap.
 #[tactic(auto, using(bm_base::proofs::ChunkLemmas::chunk_other))]
-fn copy_record_w<const W: usize>(to: &mut [u8], i: usize, from: &[u8], j: usize)
+pub fn copy_record_w<const W: usize>(to: &mut [u8], i: usize, from: &[u8], j: usize)
     requires to { (i + 1) * W ≤ length to.old }
     requires from { (j + 1) * W ≤ length from.now }
     ensures copied { slice_chunk to.new W i ≡ slice_chunk from.now W j }
