@@ -1,4 +1,5 @@
 pub mod MoveLemmas
 pub mod PlaceLemmas
+pub mod SplitLemmas
 pub mod LoadLemmas
 pub mod PassLemmas

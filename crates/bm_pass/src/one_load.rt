@@ -16,6 +16,7 @@ use bm_bufs::{Bufs, Placing};
 use bm_butter::butterflies_at;
 use bm_forms::PassForm;
 use bm_rack::Rack;
+use bm_split::best_split;
 use bm_stripe::{read_stripe, write_spread};
 
 /// Reads one row of a load into the row list, and places its records in the load list.
@@ -49,8 +50,8 @@ fn fill_row<R: Rack>(
     Ok(())
 }
 
-/// Reads a load into the load list, each record to its place, in M/BD row calls.
-fn fill_load<R: Rack>(
+/// Reads the rows of a load, each record to its place in the load list, in M/BD row calls.
+fn fill_rows<R: Rack>(
     rack: &mut R,
     shape: &Shape,
     from: Area,
@@ -76,6 +77,42 @@ fn fill_load<R: Rack>(
         fill_row(rack, shape, from, load, row, placing, bufs)?;
     }
     Ok(())
+}
+
+/// Reads a load into the load list, each record to its place, in M/BD row calls.
+///
+/// Where that is faster the records go in two steps: whole runs as the rows arrive, and then records
+/// within tiles.
+fn fill_load<R: Rack>(
+    rack: &mut R,
+    shape: &Shape,
+    from: Area,
+    load: u64,
+    placing: &Placing,
+    bufs: &mut Bufs,
+) -> Result<(), Failed>
+    requires attached { (R.view rack.old).attached ≡ Some (dims_of shape.now) }
+    requires load { load < 2 ^ (shape.now.n - shape.now.m) }
+    requires placing { IsOfLoad shape.now placing.now }
+    requires fits { FitsShape shape.now bufs.old }
+
+    ensures records { IsTrue R.tells_contents
+        → OnOk result (HoldsLoad shape.now placing.now from load (R.view rack.old).contents
+        bufs.new.load) }
+    ensures fits { FitsShape shape.now bufs.new }
+    ensures state { SameState (R.view rack.old) (R.view rack.new) }
+    ensures moved { MakesMoves (load_stripes shape.now) (R.view rack.old) (R.view rack.new) result }
+    ensures keeps { Keeps (R.view rack.old) (R.view rack.new) }
+    ensures cause { HasCause (IsErr result) (R.view rack.old) (R.view rack.new) }
+{
+    match best_split(placing, shape.b() + shape.d()) {
+        Some(split) => {
+            fill_rows(rack, shape, from, load, &split.outer, bufs)?;
+            bufs.settle(&split.inner);
+            Ok(())
+        }
+        None => fill_rows(rack, shape, from, load, placing, bufs),
+    }
 }
 
 /// Does the butterflies of a pass on the bits below `low`, on a load's records at their places.

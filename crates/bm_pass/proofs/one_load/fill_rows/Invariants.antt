@@ -3,7 +3,7 @@ use Rattle.bm_bufs.specs.Bufs.{FitsShape}
 use Rattle.bm_rack.specs.Frames.{Keeps, SameState}
 use Rattle.bm_pass.specs.LoadPlaces.{HoldsRowsOfLoad}
 use Rattle.bm_pass.proofs.MoveLemmas.{MadeMoves}
-use Rattle.bm_pass.proofs.one_load.fill_load.Given as goal
+use Rattle.bm_pass.proofs.one_load.fill_rows.Given as goal
 
 abbrev pub invariant-loop-row : goal.invariant-loop-row
 invariant-loop-row g l =
