@@ -1,2 +1,6 @@
 pub mod RunMapLemmas
 pub mod StepLemmas
+pub mod BasisLemmas
+pub mod TileBasisLemmas
+pub mod TilingLemmas
+pub mod ChoiceLemmas

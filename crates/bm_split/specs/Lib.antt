@@ -1,3 +1,6 @@
 pub mod RunMap
+pub mod Bases
+pub mod Tiling
 pub mod Splits
 pub mod Locality
+pub mod Runs

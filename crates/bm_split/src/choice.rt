@@ -1,9 +1,10 @@
 //! The two steps by which a placing is fastest.
 
-ghost use Rattle.std.specs.Prelude.{◌≡◌, ℕ, ◌+◌, ◌*◌, ◌^◌, ◌<◌, ◌≤◌, ◌↔◌, IsTrue, IfSome, IsNone};
-ghost use Rattle.bm_rank.specs.Rank.{rank_of_rows};
+ghost use Rattle.std.specs.Prelude.{◌≡◌, ℕ, ◌+◌, ◌*◌, ◌^◌, ◌<◌, ◌≤◌, ◌↔◌, IsTrue, IfSome, IsSome, IsNone};
+ghost use Rattle.bm_gf2.specs.Matrix.{IsNonsingular};
 ghost use Rattle.bm_split.specs.Splits.{IsSplit};
 ghost use Rattle.bm_split.specs.Locality.{IsMostBits, IsLocal};
+ghost use Rattle.bm_split.specs.Runs.{IsRun, Serves};
 
 use crate::split::Split;
 use crate::splitting::split_placing;
@@ -21,7 +22,7 @@ const SMALL_LOAD: u64 = 2097152;
 // Records above this many bytes fill lines of their own.
 const WIDEST: u16 = 64;
 
-// The largest run in bytes, and at records of one byte.
+// The most bytes of a run, and of a run of records of one byte.
 const RUN_BYTES: u64 = 1024;
 
 const RUN_BYTES_AT_ONE: u64 = 256;
@@ -50,11 +51,48 @@ fn is_local(placing: &Placing) -> bool
     rank_of(&placing.a, line, cached) + line <= cached
 }
 
+// Whether runs of 2^low records are worth moving as a whole.
+#[tactic(auto, using(crate::proofs::RunMapLemmas::one_shifted))]
+fn is_run(width: u16, low: u8) -> bool
+    requires { low ≤ 52 }
+    ensures { IsTrue result ↔ IsRun width low }
+{
+    let most = if width == 1 {
+        RUN_BYTES_AT_ONE
+    } else {
+        RUN_BYTES
+    };
+    let bytes = u64::from(width).saturating_mul(1 << low);
+    low >= 2 && bytes >= LINE_BYTES && bytes <= most
+}
+
+// The split by the largest runs that serve.
+fn largest_split(placing: &Placing, room: u8) -> Option<Split>
+    requires { placing.now.plus < 2 ^ placing.now.a.n }
+    ensures split { IfSome result (IsSplit placing.now room) }
+    ensures serves { IfSome result (λ s. Serves placing.now room s.inner.low) }
+    ensures largest { IfSome result (λ s. (low : ℕ)
+        → Serves placing.now room low → low ≤ s.inner.low) }
+    ensures found { (low : ℕ) → IsNonsingular placing.now.a
+        → Serves placing.now room low → IsSome result }
+{
+    for low in (2..placing.a.n).rev() {
+        if is_run(placing.width, low) {
+            let split = split_placing(placing, low, room);
+            if split.is_some() {
+                return split;
+            }
+        }
+    }
+    None
+}
+
 /// The two steps by which the placing is fastest, or nothing where its records are best placed
 /// one by one: where the map is local, records are wider than 64 bytes or the load has less than
 /// 2 MiB, and where no tile of at most 2^room records serves.
 ///
-/// A run has at most 1 KiB, or 256 bytes of records of one byte, and at least 4 records.
+/// Of the runs that serve it takes the largest. A run has at least 4 records and 64 bytes, and at
+/// most 1 KiB, or 256 bytes of records of one byte.
 #[tactic(auto, using(crate::proofs::RunMapLemmas::one_shifted))]
 pub fn best_split(placing: &Placing, room: u8) -> Option<Split>
     requires { placing.now.plus < 2 ^ placing.now.a.n }
@@ -62,32 +100,16 @@ pub fn best_split(placing: &Placing, room: u8) -> Option<Split>
     ensures local { IsLocal placing.now → IsNone result }
     ensures wide { 64 < placing.now.width → IsNone result }
     ensures small { 2 ^ placing.now.a.n * placing.now.width < 2097152 → IsNone result }
+    ensures serves { IfSome result (λ s. Serves placing.now room s.inner.low) }
+    ensures largest { IfSome result (λ s. (low : ℕ)
+        → Serves placing.now room low → low ≤ s.inner.low) }
+    ensures found { (low : ℕ) → ¬ IsLocal placing.now → placing.now.width ≤ 64
+        → 2097152 ≤ 2 ^ placing.now.a.n * placing.now.width → IsNonsingular placing.now.a
+        → Serves placing.now room low → IsSome result }
 {
     let bytes = u64::from(placing.width).saturating_mul(1 << placing.a.n);
     if placing.width > WIDEST || bytes < SMALL_LOAD || is_local(placing) {
         return None;
     }
     largest_split(placing, room)
-}
-
-// The split by the largest runs for which there is one.
-fn largest_split(placing: &Placing, room: u8) -> Option<Split>
-    requires { placing.now.plus < 2 ^ placing.now.a.n }
-    ensures split { IfSome result (IsSplit placing.now room) }
-{
-    let bytes = if placing.width == 1 {
-        RUN_BYTES_AT_ONE
-    } else {
-        RUN_BYTES
-    };
-    let most = most_bits(bytes, placing.width, placing.a.n - 1);
-    let least = most_bits(LINE_BYTES, placing.width, placing.a.n - 1).max(2);
-    for below in (least..most + 1).rev() {
-        let low = below;
-        let split = split_placing(placing, low, room);
-        if split.is_some() {
-            return split;
-        }
-    }
-    None
 }

@@ -1,9 +1,10 @@
 //! Columns for the maps of the two steps.
 
-ghost use Rattle.std.specs.Prelude.{◌≡◌, ℕ, ◌+◌, ◌-◌, ◌*◌, ◌/◌, ◌^◌, ◌<◌, ◌≤◌, slice_index};
+ghost use Rattle.std.specs.Prelude.{◌≡◌, ℕ, ◌+◌, ◌-◌, ◌*◌, ◌/◌, ◌^◌, ◌<◌, ◌≤◌, slice_index, take};
 ghost use Rattle.bm_gf2.specs.Matrix.{column};
 ghost use Rattle.bm_bufs.specs.Tiles.{HasRunBasis};
 ghost use Rattle.bm_split.specs.RunMap.{IsRunMap};
+ghost use Rattle.bm_split.specs.Bases.{HasBasis};
 
 use bm_gf2::{MOST_COLUMNS, Matrix, no_columns};
 use bm_rank::Echelon;
@@ -64,6 +65,7 @@ pub fn independent_ones(vectors: &[u64; MOST_COLUMNS], count: u8, bits: u8) -> [
     requires bits { bits ≤ 52 }
     requires below { (i : ℕ) → i < count → slice_index vectors.now i < 2 ^ bits }
     ensures below { (i : ℕ) → slice_index result i < 2 ^ bits }
+    ensures bases { (k : ℕ) → k ≤ count → HasBasis result (take k vectors.now) }
 {
     let mut found = Echelon::new(bits);
     let mut ones = no_columns();
