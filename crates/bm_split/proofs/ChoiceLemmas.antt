@@ -5,11 +5,11 @@ use Rattle.std.proofs.Math.Pow.{pow_mono}
 use Rattle.std.proofs.lemmas.Bool.{cases_lt}
 use Rattle.bm_split.specs.Runs.{IsRun, run_bytes}
 
--- no run has more than 1024 bytes
-run_bytes-le : (width : ℕ) → run_bytes width ≤ 1024
+-- no run has more than 2048 bytes
+run_bytes-le : (width : ℕ) → run_bytes width ≤ 2048
 run_bytes-le width = either (width == 1)
   where
-    either : (b : Bool) → (if b then 256 else 1024) ≤ 1024
+    either : (b : Bool) → (if b then 512 else 2048) ≤ 2048
     either true = omega arith
     either false = omega arith
 
