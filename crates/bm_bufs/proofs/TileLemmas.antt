@@ -1,5 +1,5 @@
 -- Records of runs and of tiles.
-use Rattle.std.proofs.Common.{◌≡◌, ◌≢◌, ℕ, ◌+◌, ◌-◌, ◌*◌, ◌/◌, ◌%◌, ◌^◌, ◌<◌, ◌≤◌, bit_xor, refl, sym, ap, ◌∙◌, subst, arith, inl, inr, ⊎_elim, ◌⊎◌, List, length}
+use Rattle.std.proofs.Common.{◌≡◌, ◌≢◌, ℕ, ◌+◌, ◌-◌, ◌*◌, ◌/◌, ◌%◌, ◌^◌, ◌<◌, ◌≤◌, bit_xor, sym, ap, ◌∙◌, subst, arith, inl, inr, ⊎_elim, ◌⊎◌, List}
 use Rattle.std.specs.Fork.{slice_chunk}
 use Rattle.std.specs.Int.Bits.{xor_shifted, xor_mod, xor_shr, xor_assoc, xor_zero_l, xor_zero_r}
 use Rattle.std.proofs.lemmas.Nat.{pow_pos, pow_below, pow-add, xor_lt, div-mul-add, one_shl, shl_whole}
@@ -277,10 +277,11 @@ tile_start m o inside =
     let whole : start % 18446744073709551616 ≡ start = shl_whole o (n - m.tile) (m.tile - m.low) 64 inside (omega (arith, m.low_in)) in
     let again : start * 2 ^ m.low % 18446744073709551616 ≡ start * 2 ^ m.low = shl_whole start (n - m.low) m.low 64 (omega arith) (omega arith) in
     let end = run_end (start + 0) n m.low low_few short in
-    let some : 0 < 2 ^ m.low = pow_pos m.low in
-    (whole,
-    ap (λ x. x * 2 ^ m.low % 18446744073709551616) whole ∙ again ∙ ap (λ x. x * 2 ^ m.low) (let e : start ≡ start + 0 = omega arith in e),
-    omega arith)
+    let some : 0 < 2 ^ m.low = pow_pos m.low in (
+      whole,
+      ap (λ x. x * 2 ^ m.low % 18446744073709551616) whole ∙ again ∙ ap (λ x. x * 2 ^ m.low) (let e : start ≡ start + 0 = omega arith in e),
+      omega arith,
+    )
 
 -- a run of a tile, as the loop over them tests it
 pub tile_turn : (m : TileMap) (o q : ℕ) → o < 2 ^ (m.basis.n - m.tile) → q < 1 * 2 ^ (m.tile - m.low) % 18446744073709551616
@@ -319,7 +320,7 @@ four_more w low width at first from j place row load new some is here one two th
     let number : (k : ℕ) → k < 4 → bit_xor from (xor_sum w low k) ≡ bit_xor first (xor_sum w low (j * 4 + k)) =
     λ k small. ap (λ x. bit_xor x (xor_sum w low k)) here ∙ sym (four_numbers w low j k first small) in
     let at_k : (k : ℕ) → (i ≡ j * 4 + k) → k < 4 → slice_chunk new width (place + k) ≡ slice_chunk row width (bit_xor from (xor_sum w low k))
-        → slice_chunk new width (at + i) ≡ slice_chunk row width (bit_xor first (xor_sum w low i)) =
+    → slice_chunk new width (at + i) ≡ slice_chunk row width (bit_xor first (xor_sum w low i)) =
     λ k e small copied. ap (slice_chunk new width) (let s : at + i ≡ place + k = omega arith in s) ∙ copied
     ∙ ap (slice_chunk row width) (number k small ∙ ap (λ x. bit_xor first (xor_sum w low x)) (sym e)) in
     ⊎_elim

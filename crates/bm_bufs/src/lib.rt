@@ -1,4 +1,5 @@
-//! The two record buffers of a pass, and the placing of a row's records in a load.
+//! The two record buffers of a pass, the placing of a row's records in a load, and the moves of a
+//! load's records within tiles.
 #![tactic(auto)]
 
 mod bufs;

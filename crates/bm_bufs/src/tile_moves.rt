@@ -45,7 +45,15 @@ fn fill_fours<const W: usize>(load: &mut [u8], row: &[u8], steps: &TileSteps, at
     let mut from = first;
     for j in 0..1u64 << (steps.map.low - 2) {
         let place = (at + 4 * j) as usize;
-        copy_four::<W>(load, place, row, from, from ^ one, from ^ two, from ^ one ^ two);
+        copy_four::<W>(
+            load,
+            place,
+            row,
+            from,
+            from ^ one,
+            from ^ two,
+            from ^ one ^ two,
+        );
         from ^= steps.fours[j.trailing_ones() as usize];
     }
 }

@@ -3,3 +3,10 @@ pub mod PairLemmas
 pub mod PlaceLemmas
 pub mod SizeLemmas
 pub mod PairedLemmas
+pub mod SpreadLemmas
+pub mod GroupLemmas
+pub mod QuadLemmas
+pub mod CornerLemmas
+pub mod WithoutLemmas
+pub mod NumberLemmas
+pub mod LoneLemmas

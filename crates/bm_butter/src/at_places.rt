@@ -9,7 +9,10 @@ ghost use Rattle.bm_butter.specs.LoneBit.{IsLoneBit};
 
 use crate::lone_bit::lone_bit;
 use crate::on_bit::{Halves, butterfly_on};
+use crate::on_two_bits::{Corners, butterflies_on};
 use crate::pair::pair;
+use crate::quad::quad;
+use crate::without::without_column;
 use bm_gf2::{Matrix, Stepper};
 
 // The butterfly on one bit of the numbers, number by number.
@@ -62,6 +65,66 @@ fn butterfly_at(buf: &mut [u8], a: &Matrix, plus: u64, i: u8)
     }
 }
 
+// The butterflies on bits i and i + 1 of the numbers, group by group: the numbers without both bits
+// are those of the map without the two columns.
+fn two_by_numbers(buf: &mut [u8], a: &Matrix, plus: u64, i: u8)
+    requires nonsingular { IsNonsingular a.now }
+    requires plus { plus < 2 ^ a.now.n }
+    requires whole { length buf.old ≡ 8 * 2 ^ a.now.n }
+    requires bits { i + 1 < a.now.n }
+    ensures size { length buf.new ≡ length buf.old }
+    ensures records { SameRecords (2 ^ a.now.n) (record_at_place a.now plus buf.new)
+        (butterfly (i + 1) (butterfly i (record_at_place a.now plus buf.old))) }
+{
+    let first = a.cols[usize::from(i)];
+    let second = a.cols[usize::from(i + 1)];
+    let others = without_column(&without_column(a, i + 1), i);
+    let mut stepper = Stepper::start(&others, plus, 0);
+    for group in 0..1u64 << (a.n - 2) {
+        let place = stepper.here();
+        quad(
+            buf,
+            place as usize,
+            (place ^ first) as usize,
+            (place ^ second) as usize,
+            (place ^ first ^ second) as usize,
+        );
+        stepper.step();
+    }
+}
+
+// The same where both bits are bits of the places: bits h and k, or their complements where `plus`
+// has them.
+fn two_at_bits(buf: &mut [u8], a: &Matrix, plus: u64, i: u8, h: u8, k: u8)
+    requires plus { plus < 2 ^ a.now.n }
+    requires whole { length buf.old ≡ 8 * 2 ^ a.now.n }
+    requires bits { i + 1 < a.now.n }
+    requires inner { IsLoneBit a.now i h }
+    requires outer { IsLoneBit a.now (i + 1) k }
+    ensures size { length buf.new ≡ length buf.old }
+    ensures records { SameRecords (2 ^ a.now.n) (record_at_place a.now plus buf.new)
+        (butterfly (i + 1) (butterfly i (record_at_place a.now plus buf.old))) }
+{
+    let corners = Corners::of(Halves::of(h, plus), Halves::of(k, plus));
+    butterflies_on(buf, &corners, 1 << (a.n - 1 - corners.high));
+}
+
+// The butterflies on bits i and i + 1 of the numbers.
+fn two_at(buf: &mut [u8], a: &Matrix, plus: u64, i: u8)
+    requires nonsingular { IsNonsingular a.now }
+    requires plus { plus < 2 ^ a.now.n }
+    requires whole { length buf.old ≡ 8 * 2 ^ a.now.n }
+    requires bits { i + 1 < a.now.n }
+    ensures size { length buf.new ≡ length buf.old }
+    ensures records { SameRecords (2 ^ a.now.n) (record_at_place a.now plus buf.new)
+        (butterfly (i + 1) (butterfly i (record_at_place a.now plus buf.old))) }
+{
+    match (lone_bit(a, i), lone_bit(a, i + 1)) {
+        (Some(h), Some(k)) => two_at_bits(buf, a, plus, i, h, k),
+        _ => two_by_numbers(buf, a, plus, i),
+    }
+}
+
 /// The butterflies on number bits 0 to low - 1, in ascending order, of records of which number i
 /// stands at the place `a i XOR plus`.
 ///
@@ -75,7 +138,11 @@ pub fn butterflies_at(buf: &mut [u8], a: &Matrix, plus: u64, low: u8)
     ensures records { SameRecords (2 ^ a.now.n) (record_at_place a.now plus buf.new)
         (butterflies low (record_at_place a.now plus buf.old)) }
 {
-    for i in 0..low {
-        butterfly_at(buf, a, plus, i);
+    for two in 0..low / 2 {
+        two_at(buf, a, plus, 2 * two);
+    }
+    let left_over = low % 2;
+    if left_over == 1 {
+        butterfly_at(buf, a, plus, low - 1);
     }
 }

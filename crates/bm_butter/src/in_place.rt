@@ -6,6 +6,7 @@ ghost use Rattle.bm_base.specs.Butterfly.{butterfly, butterflies};
 ghost use Rattle.bm_butter.specs.Records.{record_in_order};
 
 use crate::on_bit::{Halves, butterfly_on};
+use crate::on_two_bits::{Corners, butterflies_on};
 use crate::pair::RECORD_BYTES;
 
 // The butterfly on one bit of the addresses.
@@ -18,6 +19,19 @@ fn butterfly_in_order(buf: &mut [u8], i: u8)
 {
     let count = buf.len() / RECORD_BYTES;
     butterfly_on(buf, &Halves::of(i, 0), 0, count >> (i + 1));
+}
+
+// The butterflies on bits i and i + 1 of the addresses.
+fn two_in_order(buf: &mut [u8], i: u8)
+    requires whole { length buf.old % (8 * 2 ^ (i + 2)) ≡ 0 }
+    requires some { 0 < length buf.old }
+    ensures size { length buf.new ≡ length buf.old }
+    ensures records { SameRecords (length buf.old / 8) (record_in_order buf.new)
+        (butterfly (i + 1) (butterfly i (record_in_order buf.old))) }
+{
+    let count = buf.len() / RECORD_BYTES;
+    let corners = Corners::of(Halves::of(i, 0), Halves::of(i + 1, 0));
+    butterflies_on(buf, &corners, count >> (i + 2));
 }
 
 /// The butterflies on address bits 0 to low - 1, in ascending order, of the records in a buffer.
@@ -34,7 +48,11 @@ pub fn butterflies(buf: &mut [u8], low: u8)
     if buf.is_empty() {
         return;
     }
-    for i in 0..low {
-        butterfly_in_order(buf, i);
+    for two in 0..low / 2 {
+        two_in_order(buf, 2 * two);
+    }
+    let left_over = low % 2;
+    if left_over == 1 {
+        butterfly_in_order(buf, low - 1);
     }
 }

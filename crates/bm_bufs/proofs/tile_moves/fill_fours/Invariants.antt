@@ -10,7 +10,7 @@ invariant-loop-j g l = record {
   two : l.two ≡ column l.steps.map.back 1;
   from : l.from ≡ bit_xor l.first (xor_sum (column l.steps.map.back) l.steps.map.low (l.j * 2 ^ 2));
   moved : (i : ℕ) → i < l.j * 4 → slice_chunk l.load g.row.W (l.at + i) ≡ slice_chunk l.row g.row.W (bit_xor l.first
-  (xor_sum (column l.steps.map.back) l.steps.map.low i));
+      (xor_sum (column l.steps.map.back) l.steps.map.low i));
   others : (k : ℕ) → (k < l.at) ⊎ (l.at + 2 ^ l.steps.map.low ≤ k) → slice_chunk l.load g.row.W k ≡ slice_chunk l.fn.load g.row.W k;
   size : length l.load ≡ length l.fn.load;
 }

@@ -9,7 +9,7 @@ invariant-loop-j l = record {
   width : l.width ≡ l.steps.map.placing.width;
   from : l.from ≡ bit_xor l.first (xor_sum (column l.steps.map.back) l.steps.map.low l.j);
   moved : (i : ℕ) → i < l.j → slice_chunk l.load l.width (l.at + i) ≡ slice_chunk l.row l.width (bit_xor l.first
-  (xor_sum (column l.steps.map.back) l.steps.map.low i));
+      (xor_sum (column l.steps.map.back) l.steps.map.low i));
   others : (k : ℕ) → (k < l.at) ⊎ (l.at + 2 ^ l.steps.map.low ≤ k) → slice_chunk l.load l.width k ≡ slice_chunk l.fn.load l.width k;
   size : length l.load ≡ length l.fn.load;
 }

@@ -1,4 +1,4 @@
-use Rattle.std.proofs.Common.{◌≡◌, ℕ, ◌+◌, ◌-◌, ◌*◌, ◌^◌, ◌<◌, bit_xor, length-set, refl, ap, ◌∙◌, arith}
+use Rattle.std.proofs.Common.{◌≡◌, ◌+◌, ◌-◌, ◌*◌, ◌^◌, bit_xor, length-set, refl, ap, ◌∙◌, arith}
 use Rattle.bm_gf2.specs.Matrix.{column}
 use Rattle.bm_gf2.specs.Vector.{xor_sum}
 use Rattle.bm_bufs.proofs.StepLemmas.{step_taken, step_left, step_none, entry_more}

@@ -1,22 +1,44 @@
-use Rattle.std.proofs.Common.{◌+◌, ◌^◌, refl, ◌∙◌, arith}
+use Rattle.std.proofs.Common.{◌+◌, ◌-◌, ◌*◌, ◌≡◌, ◌^◌, refl, ◌∙◌, subst, arith}
+use Rattle.bm_base.specs.Records.{SameRecords}
 use Rattle.bm_base.specs.Butterfly.{butterflies}
 use Rattle.bm_butter.specs.Records.{record_at_place}
 use Rattle.bm_butter.proofs.PairLemmas.{butterflies-more}
+use Rattle.bm_butter.proofs.GroupLemmas.{butterflies-two}
 use Rattle.bm_butter.proofs.SizeLemmas.{power_whole}
 use Rattle.bm_butter.proofs.at_places.butterflies_at.Goals as goal
 
-pub loop-i-init : goal.loop-i-init
+pub loop-two-init : goal.loop-two-init
 unfolding butterflies
-loop-i-init c = record { size = refl; records = λ x inside. refl }
+loop-two-init c = record { size = refl; records = λ x inside. refl }
 
-pub loop-i-preserved : goal.loop-i-preserved
-loop-i-preserved c =
+pub loop-two-preserved : goal.loop-two-preserved
+loop-two-preserved c =
     let a = c.args.a.now in
-    let inv = c.loop-i.invariant in
-    let test = c.loop-i-test.true in
+    let inv = c.loop-two.invariant in
+    let test = c.loop-two-test.true in
+    let i = 2 * c.loop-two.two in
     let rec = record_at_place a c.args.plus in
     record {
-      size = c.butterfly_at.ensures.size ∙ inv.size;
-      records = butterflies-more c.loop-i.i (2 ^ a.n) (rec c.args.buf.now) (rec c.loop-i.buf) (rec c.butterfly_at.new.buf)
-          (power_whole a.n (c.loop-i.i + 1) (omega (arith, c.requires.low))) inv.records c.butterfly_at.ensures.records;
+      size = c.two_at.ensures.size ∙ inv.size;
+      records = subst (λ k. SameRecords (2 ^ a.n) (rec c.two_at.new.buf) (butterflies k (rec c.args.buf.now)))
+          (let e : i + 1 + 1 ≡ 2 * (c.loop-two.two + 1) = omega arith in e)
+          (butterflies-two i (2 ^ a.n) (rec c.args.buf.now) (rec c.loop-two.buf) (rec c.two_at.new.buf)
+          (power_whole a.n (i + 1) (omega (arith, c.requires.low))) (power_whole a.n (i + 1 + 1) (omega (arith, c.requires.low))) inv.records
+          c.two_at.ensures.records);
     }
+
+pub returns-then-left_over-eq1-clause-records : goal.returns-then-left_over-eq1-clause-records
+returns-then-left_over-eq1-clause-records c =
+    let a = c.args.a.now in
+    let low = c.args.low in
+    let inv = c.loop-two.invariant in
+    let test = c.loop-two-test.false in
+    let odd = c.if-left_over-eq1.true in
+    let rec = record_at_place a c.args.plus in
+    let end : 2 * c.loop-two.two ≡ low - 1 = omega (arith, c.loop-two.auto.two-end) in
+    subst (λ k. SameRecords (2 ^ a.n) (rec c.butterfly_at.new.buf) (butterflies k (rec c.args.buf.now)))
+    (let e : low - 1 + 1 ≡ low = omega arith in e)
+    (butterflies-more (low - 1) (2 ^ a.n) (rec c.args.buf.now) (rec c.loop-two.buf) (rec c.butterfly_at.new.buf)
+    (power_whole a.n (low - 1 + 1) (omega (arith, c.requires.low)))
+    (subst (λ k. SameRecords (2 ^ a.n) (rec c.loop-two.buf) (butterflies k (rec c.args.buf.now))) end inv.records)
+    c.butterfly_at.ensures.records)

@@ -1,0 +1,42 @@
+use Rattle.std.proofs.Common.{◌≡◌, ◌+◌, ◌-◌, ◌*◌, ◌%◌, ◌^◌, ◌<◌, min, max, ap, ◌∙◌, arith}
+use Rattle.std.proofs.lemmas.Nat.{one_shl}
+use Rattle.bm_butter.proofs.CornerLemmas.{GroupsDone-as}
+use Rattle.bm_butter.proofs.LoneLemmas.{HoldHalves, SameRecords-lone, corner_blocks}
+use Rattle.bm_butter.proofs.at_places.two_at_bits.Goals as goal
+
+pub butterflies_on-requires : goal.butterflies_on-requires
+butterflies_on-requires c =
+    let a = c.args.a.now in
+    let corners = c.of-corners.result in
+    let high_inside : corners.high < a.n =
+    omega (arith, c.of-corners.ensures.high, c.of.ensures.bit, c.of-2.ensures.bit, c.requires.inner.inside, c.requires.outer.inside) in
+    let all : 2 ^ (a.n - 1 - corners.high) * 2 ^ (corners.high + 1) ≡ 2 ^ a.n =
+    (corner_blocks a.n corners.high high_inside (omega (arith, corners.order))).0 in
+    let blocks : 1 * 2 ^ (a.n - 1 - corners.high) % 2 ^ 64 * 2 ^ (corners.high + 1) ≡ 2 ^ a.n =
+    ap (λ k. k * 2 ^ (corners.high + 1)) (one_shl (a.n - 1 - corners.high) 64 (omega (arith, a.few))) ∙ all in
+    record { fits = omega (arith, blocks, c.requires.whole) }
+
+pub returns-clause-records : goal.returns-clause-records
+returns-clause-records c =
+    let a = c.args.a.now in
+    let h = c.args.h in
+    let k = c.args.k in
+    let inner = c.of.result in
+    let outer = c.of-2.result in
+    let corners = c.of-corners.result in
+    let old = c.args.buf.now in
+    let new = c.butterflies_on.new.buf in
+    let halves : HoldHalves c.args.plus h inner.sum inner.difference = record { upright = c.of.ensures.clear; turned = c.of.ensures.set } in
+    let halves_above : HoldHalves c.args.plus k outer.sum outer.difference =
+    record { upright = c.of-2.ensures.clear; turned = c.of-2.ensures.set } in
+    let is_low : corners.low ≡ min h k = omega (arith, c.of-corners.ensures.low, c.of.ensures.bit, c.of-2.ensures.bit) in
+    let is_high : corners.high ≡ max h k = omega (arith, c.of-corners.ensures.high, c.of.ensures.bit, c.of-2.ensures.bit) in
+    let count : 1 * 2 ^ (a.n - 1 - corners.high) % 2 ^ 64 * 2 ^ (corners.high - 1) ≡ 2 ^ (a.n - 1 - max h k) * 2 ^ (max h k - 1) =
+    ap (λ n. n * 2 ^ (corners.high - 1)) (one_shl (a.n - 1 - corners.high) 64 (omega (arith, a.few)))
+    ∙ ap (λ n. 2 ^ (a.n - 1 - n) * 2 ^ (n - 1)) is_high in
+    SameRecords-lone a c.args.plus c.args.i h k inner.sum inner.difference outer.sum outer.difference old new c.requires.plus c.requires.bits
+    c.requires.inner c.requires.outer halves halves_above
+    (GroupsDone-as corners.low corners.high corners.first corners.second corners.third corners.fourth _
+    (min h k) (max h k) (inner.sum + outer.sum) (inner.difference + outer.sum) (inner.sum + outer.difference)
+    (inner.difference + outer.difference) _ old new is_low is_high c.of-corners.ensures.first c.of-corners.ensures.second
+    c.of-corners.ensures.third c.of-corners.ensures.fourth count c.butterflies_on.ensures.done)

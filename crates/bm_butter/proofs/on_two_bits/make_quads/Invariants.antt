@@ -1,0 +1,9 @@
+use Rattle.std.proofs.Common.{◌≡◌, length}
+use Rattle.bm_butter.specs.Groups.{GroupsDone, run_place}
+use Rattle.bm_butter.proofs.on_two_bits.make_quads.Given as goal
+
+abbrev pub invariant-loop-k : goal.invariant-loop-k
+invariant-loop-k l = record {
+  size : length l.buf ≡ length l.fn.buf;
+  done : GroupsDone (run_place l.p l.q l.r l.s) 0 l.k l.fn.buf l.buf;
+}
