@@ -47,15 +47,16 @@ fn most_bits(bytes: u64, width: u16, most: u8) -> u8
     0
 }
 
-// Whether records that follow one another go to few cache lines: those that a cache holds go to
-// no more lines than they fill.
+// Whether records that follow one another go to few units: those that a cache holds go to no more
+// units than they fill. A unit is a line, or 8 records where these are more.
 fn is_local(placing: &Placing) -> bool
     ensures { IsTrue result ↔ IsLocal placing.now }
 {
     let n = placing.a.n;
     let cached = most_bits(CACHE_BYTES, placing.width, n);
-    let line = most_bits(LINE_BYTES, placing.width, n);
-    rank_of(&placing.a, line, cached) + line <= cached
+    let bytes = LINE_BYTES.max(8 * u64::from(placing.width));
+    let unit = most_bits(bytes, placing.width, n);
+    rank_of(&placing.a, unit, cached) + unit <= cached
 }
 
 // Whether runs of 2^low records are worth moving as a whole.
