@@ -3,3 +3,4 @@ pub mod KindLemmas
 pub mod NumberLemmas
 pub mod StopLemmas
 pub mod NamedLemmas
+pub mod OneFileLemmas

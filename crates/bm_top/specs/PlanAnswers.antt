@@ -1,5 +1,5 @@
 -- What each answer of a plan tells of the job text, its source and the output.
-use Rattle.std.specs.Prelude.{◌≡◌, ◌⊎◌, ℕ, ◌≤◌, ◌++◌, List}
+use Rattle.std.specs.Prelude.{◌≡◌, ◌⊎◌, ℕ, ◌≤◌, ◌++◌, List, [], drop}
 use Rattle.bm_base.specs.declared.field_name.FieldName.{FieldName}
 use Rattle.bm_base.specs.declared.shape.Shape.{Shape}
 use Rattle.bm_base.specs.Count.{Rose}
@@ -8,6 +8,7 @@ use Rattle.bm_rack.specs.Sink.{AppendsFront}
 use Rattle.bm_jobfile.specs.declared.job_file.JobFile.{JobFile}
 use Rattle.bm_jobfile.specs.JobFile.{IsNoDocument, HasFaultyField, HasBrokenRule, HasMapFault, IsJobFile}
 use Rattle.bm_text.specs.PlanText.{plan_text}
+use Rattle.bm_top.specs.RecordIo.{IsRead}
 use Rattle.bm_top.specs.declared.status.Status.{Status}
 use Rattle.bm_top.specs.declared.status.Status.TheVariants.{Done, OutOfMemory, JobFault, JobText, JobField, JobShape, JobMap, SinkFault}
 
@@ -29,6 +30,18 @@ IsAfterJob Done = Unit {0}
 IsAfterJob SinkFault = Unit {0}
 IsAfterJob _ = ⊥
 
+-- the job source was read, and its text is a document
+abbrev pub IsAfterDocument : Status → Type 0
+IsAfterDocument (JobField which) = Unit {0}
+IsAfterDocument (JobShape rule) = Unit {0}
+IsAfterDocument (JobMap fault) = Unit {0}
+IsAfterDocument answer = IsAfterJob answer
+
+-- the job source was read
+abbrev pub IsAfterText : Status → Type 0
+IsAfterText JobText = Unit {0}
+IsAfterText answer = IsAfterDocument answer
+
 -- the text means a job file
 pub record IsJob (text : List ℕ) : Type 0 where
   pub file : JobFile
@@ -39,17 +52,15 @@ pub record HasJobMapFault (text : List ℕ) (fault : MapFault) : Type 0 where
   pub shape : Shape
   pub faulty : HasMapFault text shape fault
 
--- the text means a job file, and its plan was appended
+-- the text means a job file, which is one (`job_file_once`), and its plan was appended
 pub record IsPlanWritten (text old new : List ℕ) : Type 0 where
-  pub file : JobFile
-  pub means : IsJobFile text file
-  pub appended : new ≡ old ++ plan_text file.shape file.job
+  pub job : IsJob text
+  pub appended : (file : JobFile) → IsJobFile text file → new ≡ old ++ plan_text file.shape file.job
 
--- the text means a job file, and a front of its plan was appended
+-- the text means a job file, which is one, and a front of its plan was appended
 pub record IsPlanBegun (text old new : List ℕ) : Type 0 where
-  pub file : JobFile
-  pub means : IsJobFile text file
-  pub front : AppendsFront old new (plan_text file.shape file.job)
+  pub job : IsJob text
+  pub front : (file : JobFile) → IsJobFile text file → AppendsFront old new (plan_text file.shape file.job)
 
 -- the job text of a plan
 pub record PlanJob (told : Type 0) (text : List ℕ) (answer : Status) : Type 0 where
@@ -60,8 +71,13 @@ pub record PlanJob (told : Type 0) (text : List ℕ) (answer : Status) : Type 0 
   pub map : told → (fault : MapFault) → answer ≡ JobMap fault → HasJobMapFault text fault
   pub job : told → IsAfterJob answer → IsJob text
 
--- the job source of a plan
-pub record PlanSource (answer : Status) (old_faults new_faults : ℕ) : Type 0 where
+-- The job source of a plan, which had `old` left and has `new` left. Where the answer is of its text, it was read to its end, but of one
+-- of more than 65537 bytes just 65537 were read. Whatever the answer, no more were.
+pub record PlanSource (told : Type 0) (answer : Status) (old new : List ℕ) (old_faults new_faults : ℕ) : Type 0 where
+  pub ended : told → IsAfterDocument answer → new ≡ []
+  pub read : told → IsAfterText answer → new ≡ drop 65537 old
+  pub memory : told → answer ≡ OutOfMemory → (new ≡ old) ⊎ (new ≡ [])
+  pub few : told → IsRead 65537 old new
   pub fault : answer ≡ JobFault → Rose old_faults new_faults
   pub faults : old_faults ≤ new_faults
 

@@ -27,6 +27,10 @@ EndsAfter told wanted old new got = (got < wanted) × (IsTrue told → (got ≡ 
 abbrev pub GoesOnAfter : Bool → ℕ → List ℕ → List ℕ → Type 0
 GoesOnAfter told wanted old new = IsTrue told → (wanted < length old) × (new ≡ drop (wanted + 1) old)
 
+-- of a source that had `old` left and has `new` left, so many bytes at most were read
+abbrev pub IsRead : ℕ → List ℕ → List ℕ → Type 0
+IsRead most old new = (k : ℕ) × (k ≤ most) × (new ≡ drop k old)
+
 -- so many row calls where it is finished and at most as many otherwise, and no other call
 pub record MovesRows (rows : ℕ) (finished : Type 0) (old new : RackView) : Type 0 where
   pub done : finished → new.moves ≡ raised old.moves rows

@@ -1,7 +1,7 @@
 //! Bytes from a source.
 ghost use Rattle.std.specs.Prelude.{◌≡◌, ℕ, ◌<◌, ◌≤◌, ◌++◌, List, [], length, take, drop, IsTrue, IsOk, IsErr, IfOk, ◌↔◌};
 ghost use Rattle.bm_base.specs.Count.{Rose};
-ghost use Rattle.bm_top.specs.RecordIo.{EndsAfter};
+ghost use Rattle.bm_top.specs.RecordIo.{EndsAfter, IsRead};
 
 use bm_base::Failed;
 use bm_rack::Source;
@@ -18,13 +18,14 @@ pub enum FillError {
     },
 }
 
-/// Fills the buffer with the next bytes of the source.
+/// Fills the buffer with the next bytes of the source, and reads no more than it holds.
 pub fn fill<S: Source>(source: &mut S, into: &mut [u8]) -> Result<(), FillError>
     ensures whole { IsTrue S.tells → IsOk result → S.left source.old ≡ into.new ++ S.left source.new }
     ensures short { (got : ℕ) → result ≡ Err (FillError.Short got)
         → EndsAfter S.tells (length into.old) (S.left source.old) (S.left source.new) got }
     ensures part { IsTrue S.tells → (got : ℕ) → result ≡ Err (FillError.Short got)
         → S.left source.old ≡ take got into.new }
+    ensures few { IsTrue S.tells → IsRead (length into.old) (S.left source.old) (S.left source.new) }
     ensures within { (got : ℕ) → result ≡ Err (FillError.Short got) → got < length into.new }
     ensures fault { result ≡ Err FillError.Fault → Rose (S.faults source.old) (S.faults source.new) }
     ensures faults { S.faults source.old ≤ S.faults source.new }

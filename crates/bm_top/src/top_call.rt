@@ -45,7 +45,8 @@ fn run_command<R: Rack, J: Source, S: Source, K: Sink>(
     ensures rack { (s : Shape) (c : ℕ) → IsFlip words.now (flip_by s c)
         → FlipRack R.tells_stands R.tells_contents s result (R.view rack.old) (R.view rack.new) }
     ensures plan_job { IsPlan words.now → PlanJob (IsTrue J.tells) (J.left job.old) result }
-    ensures plan_source { IsPlan words.now → PlanSource result (J.faults job.old) (J.faults job.new) }
+    ensures plan_source { IsPlan words.now → PlanSource (IsTrue J.tells) result
+        (J.left job.old) (J.left job.new) (J.faults job.old) (J.faults job.new) }
     ensures plan_output { IsPlan words.now
         → PlanOutput (IsTrue J.tells × IsTrue K.tells) (J.left job.old) result
         (K.taken out.old) (K.taken out.new) (K.faults out.old) (K.faults out.new) }
@@ -68,10 +69,11 @@ fn run_command<R: Rack, J: Source, S: Source, K: Sink>(
 /// it makes and attaches, `RackFault`, `Exists`, `OutOfMemory`, `NoDisks`, `WrongDims`; then
 /// `DataFault`, `DataShort`, `RackFault`, `DataLong`, `SinkFault` as they are met.
 ///
-/// `plan JOB` reads the whole job source and writes to `out` the steps of the job's plan. It leaves
-/// the rack and the input as they are. Its refusals come in this order: `Usage`; `JobFault`;
-/// `JobText`, for a text of 65537 bytes and more too; `JobField`; `JobShape`; `JobMap`; `SinkFault`.
-/// `OutOfMemory` may come at any point of them before the first byte is written.
+/// `plan JOB` reads the job source to its end, or 65537 bytes of it where it holds more, and writes
+/// to `out` the steps of the job's plan. It leaves the rack and the input as they are. Its refusals
+/// come in this order: `Usage`; `JobFault`; `JobText`, for a text of 65537 bytes and more too;
+/// `JobField`; `JobShape`; `JobMap`; `SinkFault`. `OutOfMemory` may come at any point of them before
+/// the first byte is written.
 ///
 /// A write to `err` that fails ends that line, and changes nothing else.
 pub fn bmmc_top<R: Rack, J: Source, S: Source, K: Sink, E: Sink>(
@@ -113,7 +115,8 @@ pub fn bmmc_top<R: Rack, J: Source, S: Source, K: Sink, E: Sink>(
 
     // a plan: what its answer tells of the job text that the job source holds, and what it writes
     ensures plan_job { IsPlan words.now → PlanJob (IsTrue J.tells) (J.left job.old) result }
-    ensures plan_source { IsPlan words.now → PlanSource result (J.faults job.old) (J.faults job.new) }
+    ensures plan_source { IsPlan words.now → PlanSource (IsTrue J.tells) result
+        (J.left job.old) (J.left job.new) (J.faults job.old) (J.faults job.new) }
     ensures plan_output { IsPlan words.now
         → PlanOutput (IsTrue J.tells × IsTrue K.tells) (J.left job.old) result
         (K.taken out.old) (K.taken out.new) (K.faults out.old) (K.faults out.new) }

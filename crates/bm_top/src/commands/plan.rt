@@ -40,9 +40,10 @@ fn plan_through<J: Source, K: Sink>(
     text: &mut [u8],
     out: &mut K,
 ) -> Status
-    requires { 65536 < length text.old }
+    requires { length text.old ≡ 65537 }
     ensures job { PlanJob (IsTrue J.tells) (J.left job.old) result }
-    ensures source { PlanSource result (J.faults job.old) (J.faults job.new) }
+    ensures source { PlanSource (IsTrue J.tells) result
+        (J.left job.old) (J.left job.new) (J.faults job.old) (J.faults job.new) }
     ensures output { PlanOutput (IsTrue J.tells × IsTrue K.tells) (J.left job.old) result
         (K.taken out.old) (K.taken out.new) (K.faults out.old) (K.faults out.new) }
     ensures unwritten { (out.new ≡ out.old) ⊎ IsAfterJob result }
@@ -54,10 +55,12 @@ fn plan_through<J: Source, K: Sink>(
     }
 }
 
-/// Carries out the command: reads the whole job source, and writes the plan of its job.
+/// Carries out the command: reads the job source, no more than `JOB_ROOM` bytes of it, and writes the
+/// plan of its job.
 pub fn run_plan<J: Source, K: Sink>(alloc: Global, job: &mut J, out: &mut K) -> Status
     ensures job { PlanJob (IsTrue J.tells) (J.left job.old) result }
-    ensures source { PlanSource result (J.faults job.old) (J.faults job.new) }
+    ensures source { PlanSource (IsTrue J.tells) result
+        (J.left job.old) (J.left job.new) (J.faults job.old) (J.faults job.new) }
     ensures output { PlanOutput (IsTrue J.tells × IsTrue K.tells) (J.left job.old) result
         (K.taken out.old) (K.taken out.new) (K.faults out.old) (K.faults out.new) }
     ensures unwritten { (out.new ≡ out.old) ⊎ IsAfterJob result }

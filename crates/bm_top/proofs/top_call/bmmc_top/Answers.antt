@@ -16,4 +16,4 @@ returns-clause-complete g c s x is free =
 pub returns-clause-plan_complete : goal.returns-clause-plan_complete
 returns-clause-plan_complete g c is free =
     let told = c.run_command-status.ensures in
-    plan_is_complete _ _ _ _ _ _ _ _ _ _ (told.plan_job is) (told.plan_source is) (told.plan_output is) free
+    plan_is_complete _ _ _ _ _ _ _ _ _ _ _ (told.plan_job is) (told.plan_source is) (told.plan_output is) free

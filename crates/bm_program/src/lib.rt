@@ -1,0 +1,12 @@
+//! What the program does with its words and its standard streams.
+//!
+//! A program hands in its runtime and streams: `exit_status(&run(&rt, rt.stdin(), rt.stdout(),
+//! rt.stderr()))`.
+#![tactic(auto)]
+
+mod program;
+mod start_error;
+mod streams;
+
+pub use program::{exit_status, run};
+pub use start_error::StartError;
