@@ -97,7 +97,8 @@ keeps_tiles_of home basis numbers middle back plus back_plus tile home_size back
           let sum_in : bit_xor unit s < 2 ^ basis.n =
           xor_lt basis.n unit s (pow_below j basis.n in_basis) (up_to tile basis.n s inside m.below) in
           let is : column back j ≡ bit_xor unit s =
-          sym (xor_sum-pow (column back) back.n j l) ∙ back_is unit ∙ ap (image numbers) (middle_is unit ∙ goes) ∙ of_basis.left (bit_xor unit s) sum_in in
+          sym (xor_sum-pow (column back) back.n j l) ∙ back_is unit ∙ ap (image numbers) (middle_is unit ∙ goes)
+          ∙ of_basis.left (bit_xor unit s) sum_in in
           ap (λ c. c / 2 ^ tile) is ∙ xor_shr unit s tile ∙ ap (bit_xor (unit / 2 ^ tile)) (div-eq_of_lt m.below) ∙ xor_zero_r (unit / 2 ^ tile);
     }
 

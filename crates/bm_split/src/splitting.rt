@@ -61,13 +61,13 @@ pub fn split_placing(placing: &Placing, low: u8, room: u8) -> Option<Split>
     let Ok(shape) = Shape::new(a.n, 0, 0, low, 1) else {
         return None;
     };
-    let Ok(a_back) = inverse(a) else {
-        return None;
-    };
     let tile = low + rank_of(a, low, low);
     if tile > room {
         return None;
     }
+    let Ok(a_back) = inverse(a) else {
+        return None;
+    };
     let outer = outer_placing(placing, &shape, low);
     let Ok(outer_back) = inverse(&outer.a) else {
         unreachable!()

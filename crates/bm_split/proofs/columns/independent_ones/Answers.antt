@@ -18,9 +18,11 @@ loop-i-preserved c =
       | then-insert w ↦
           rw (w.ones-is, w.next-is, c.from.ensures) (record {
             size = c.insert.ensures.size ∙ inv.size;
-            below = rw w.from-then-insert.ensures (set_within ones next (slice_index vectors i) (2 ^ c.args.bits) (omega (arith, c.requires.count)) inv.below
+            below = rw w.from-then-insert.ensures (set_within ones next (slice_index vectors i) (2 ^ c.args.bits)
+                (omega (arith, c.requires.count)) inv.below
                 (c.requires.below i c.loop-i-test.true));
-            found = rw w.from-then-insert.ensures (found_fresh vectors i next next c.loop-i.found.kept c.insert.new.self.kept ones c.insert.result f inside
+            found = rw w.from-then-insert.ensures (found_fresh vectors i next next c.loop-i.found.kept c.insert.new.self.kept ones
+                c.insert.result f inside
                 w.if-insert.true (rw c.from.ensures at c.insert.ensures.fresh) (rw c.from.ensures at c.insert.ensures.kept) refl
                 (omega (arith, c.requires.count)));
           })
