@@ -1,5 +1,6 @@
 -- What stands where in a body page.
-use Rattle.std.proofs.Common.{◌≡◌, ℕ, zero, suc, ◌+◌, ◌-◌, ◌*◌, ◌^◌, ◌<◌, ◌≤◌, List, [], ◌∷◌, ◌++◌, length, drop, get_or, slice_index, replicate, refl, sym, ap, ◌∙◌, arith, append_assoc, length-append, codes}
+use Rattle.std.proofs.Common.{◌≡◌, ℕ, zero, suc, ◌+◌, ◌-◌, ◌*◌, ◌^◌, ◌<◌, ◌≤◌, List, [], ◌∷◌, ◌++◌, length, drop, get_or, slice_index, replicate}
+use Rattle.std.proofs.Common.{refl, sym, ap, ◌∙◌, arith, append_assoc, length-append, codes}
 use Rattle.std.proofs.lemmas.List.{drop_at, get_or-append-add, append-nil}
 use Rattle.std.proofs.Math.Nat.{pow-le-pow_right}
 use Rattle.std.proofs.Math.Pow.{pow-lt}
@@ -8,16 +9,19 @@ use Rattle.byteorder.specs.Numbers.{little_number-reads_back, length-bytes_low_f
 use Rattle.bm_base.specs.declared.shape.Shape.{Shape}
 use Rattle.bm_gf2.specs.declared.affine.Affine.{Affine}
 use Rattle.bm_gf2.specs.Matrix.{column}
-use Rattle.bm_control.specs.Bodies.{u16_bytes, u64_bytes, u16_in, u64_in, padded, body_head, column_bytes, map_bytes, map_page, load_page, part_page, loads_of, IsPartBody}
+use Rattle.bm_control.specs.Bodies.{u16_bytes, u64_bytes, u16_in, u64_in, padded, body_head, column_bytes, map_bytes, map_page, load_page}
+use Rattle.bm_control.specs.Bodies.{part_page, loads_of, IsPartBody}
 use Rattle.bm_control.proofs.PageFrontLemmas.{length-padded}
 
 -- the number that stands behind a front
-pub u64_behind : (x at : ℕ) (front rest page : List ℕ) → x < 2 ^ 64 → length front ≡ at → page ≡ front ++ (u64_bytes x ++ rest) → u64_in (drop at page) ≡ x
+pub u64_behind : (x at : ℕ) (front rest page : List ℕ) → x < 2 ^ 64 → length front ≡ at → page ≡ front ++ (u64_bytes x ++ rest)
+    → u64_in (drop at page) ≡ x
 unfolding u64_bytes u64_in
 u64_behind x at front rest page small long is =
     ap (little_number 8) (ap (drop at) is ∙ drop_at front (little_bytes 8 x ++ rest) at long) ∙ little_number-reads_back 8 x rest small
 
-pub u16_behind : (x at : ℕ) (front rest page : List ℕ) → x < 2 ^ 16 → length front ≡ at → page ≡ front ++ (u16_bytes x ++ rest) → u16_in (drop at page) ≡ x
+pub u16_behind : (x at : ℕ) (front rest page : List ℕ) → x < 2 ^ 16 → length front ≡ at → page ≡ front ++ (u16_bytes x ++ rest)
+    → u16_in (drop at page) ≡ x
 unfolding u16_bytes u16_in
 u16_behind x at front rest page small long is =
     ap (little_number 2) (ap (drop at) is ∙ drop_at front (little_bytes 2 x ++ rest) at long) ∙ little_number-reads_back 2 x rest small
@@ -50,14 +54,16 @@ length-column_bytes a zero = refl
 length-column_bytes a (suc k) =
     let h : length (u64_bytes (slice_index a k)) ≡ 8 = length-u64_bytes (slice_index a k) in
     let i : length (column_bytes a k) ≡ 8 * k = length-column_bytes a k in
-    length-append (column_bytes a k) (u64_bytes (slice_index a k)) ∙ (let e : length (column_bytes a k) + length (u64_bytes (slice_index a k)) ≡ 8 * suc k = omega arith in e)
+    length-append (column_bytes a k) (u64_bytes (slice_index a k))
+    ∙ (let e : length (column_bytes a k) + length (u64_bytes (slice_index a k)) ≡ 8 * suc k = omega arith in e)
 
 pub length-map_bytes : (f : Affine) → length (map_bytes f) ≡ 8 + 8 * f.a.n
 unfolding map_bytes
 length-map_bytes f =
     let h : length (u64_bytes f.c) ≡ 8 = length-u64_bytes f.c in
     let i : length (column_bytes f.a.cols f.a.n) ≡ 8 * f.a.n = length-column_bytes f.a.cols f.a.n in
-    length-append (u64_bytes f.c) (column_bytes f.a.cols f.a.n) ∙ (let e : length (u64_bytes f.c) + length (column_bytes f.a.cols f.a.n) ≡ 8 + 8 * f.a.n = omega arith in e)
+    length-append (u64_bytes f.c) (column_bytes f.a.cols f.a.n)
+    ∙ (let e : length (u64_bytes f.c) + length (column_bytes f.a.cols f.a.n) ≡ 8 + 8 * f.a.n = omega arith in e)
 
 -- the columns before number j, and those from it on
 columns_after : List ℕ → ℕ → ℕ → List ℕ
@@ -74,7 +80,8 @@ split_columns a j (suc k) =
     ap (column_bytes a) e
     ∙ ap (λ (x : List ℕ). x ++ u64_bytes (slice_index a (j + 1 + k))) (split_columns a j k)
     ∙ append_assoc (column_bytes a j) (u64_bytes (slice_index a j) ++ columns_after a j k) (u64_bytes (slice_index a (j + 1 + k)))
-    ∙ ap (λ (x : List ℕ). column_bytes a j ++ x) (append_assoc (u64_bytes (slice_index a j)) (columns_after a j k) (u64_bytes (slice_index a (j + 1 + k))))
+    ∙ ap (λ (x : List ℕ). column_bytes a j ++ x) (append_assoc (u64_bytes (slice_index a j)) (columns_after a j k)
+    (u64_bytes (slice_index a (j + 1 + k))))
 
 -- what stands behind the map of a page
 abbrev after_map : List ℕ → List ℕ → ℕ → List ℕ
@@ -90,10 +97,12 @@ pub constant_of : (head page : List ℕ) (f : Affine) (last : ℕ) → length he
 unfolding map_bytes
 constant_of head page f last long small is =
     u64_behind f.c 16 head (column_bytes f.a.cols f.a.n ++ after_map head (map_bytes f) last) page small long
-    (is ∙ map_page_parts head (map_bytes f) last ∙ ap (λ (x : List ℕ). head ++ x) (append_assoc (u64_bytes f.c) (column_bytes f.a.cols f.a.n) (after_map head (map_bytes f) last)))
+    (is ∙ map_page_parts head (map_bytes f) last ∙ ap (λ (x : List ℕ). head ++ x)
+    (append_assoc (u64_bytes f.c) (column_bytes f.a.cols f.a.n) (after_map head (map_bytes f) last)))
 
 -- the map's column j
-pub column_of : (head page : List ℕ) (f : Affine) (last j : ℕ) → length head ≡ 16 → j < f.a.n → column f.a j < 2 ^ 64 → page ≡ map_page head (map_bytes f) last
+pub column_of : (head page : List ℕ) (f : Affine) (last j : ℕ) → length head ≡ 16 → j < f.a.n → column f.a j < 2 ^ 64
+    → page ≡ map_page head (map_bytes f) last
     → u64_in (drop (24 + 8 * j) page) ≡ column f.a j
 unfolding map_bytes
 column_of head page f last j long within small is =
@@ -169,7 +178,8 @@ joined_5 v₀ v₁ v₂ v₃ v₄ v₅ a b p d e h₀ h₁ h₂ h₃ h₄ h₅ =
     h₅ ∙ ap (λ (x : List ℕ). x ++ e) (joined_4 v₀ v₁ v₂ v₃ v₄ a b p d h₀ h₁ h₂ h₃ h₄) ∙ simp append_assoc
 
 -- the numbers of a load body
-load_parts : (s : Shape) → (rest : List ℕ) × (load_page s ≡ codes "BMMCLOAD" ++ (u16_bytes 1 ++ (s.n ∷ s.b ∷ s.d ∷ s.m ∷ (u16_bytes s.width ++ rest))))
+load_parts : (s : Shape) → (rest : List ℕ) × (load_page s ≡ codes "BMMCLOAD" ++ (u16_bytes 1 ++ (s.n ∷ s.b ∷ s.d ∷ s.m ∷ (u16_bytes
+    s.width ++ rest))))
 unfolding load_page padded
 load_parts s = (replicate (512 - length (codes "BMMCLOAD" ++ (u16_bytes 1 ++ (s.n ∷ s.b ∷ s.d ∷ s.m ∷ u16_bytes s.width)))) 0, simp append_assoc)
 
@@ -197,11 +207,13 @@ load_numbers s page is =
       m = byte_behind s.m 13 (front ++ s.n ∷ s.b ∷ s.d ∷ []) (u16_bytes s.width ++ parts.0) page
           (length-append front (s.n ∷ s.b ∷ s.d ∷ []) ∙ ap (λ (k : ℕ). k + 3) long) (whole ∙ sym (append_assoc front (s.n ∷ s.b ∷ s.d ∷ []) _));
       width = u16_behind s.width 14 (front ++ s.n ∷ s.b ∷ s.d ∷ s.m ∷ []) parts.0 page (omega (arith, few))
-          (length-append front (s.n ∷ s.b ∷ s.d ∷ s.m ∷ []) ∙ ap (λ (k : ℕ). k + 4) long) (whole ∙ sym (append_assoc front (s.n ∷ s.b ∷ s.d ∷ s.m ∷ []) _));
+          (length-append front (s.n ∷ s.b ∷ s.d ∷ s.m ∷ []) ∙ ap (λ (k : ℕ). k + 4) long)
+          (whole ∙ sym (append_assoc front (s.n ∷ s.b ∷ s.d ∷ s.m ∷ []) _));
     }
 
 -- the numbers of a part body
-part_parts : (pass loads : ℕ) → (rest : List ℕ) × (part_page pass loads ≡ codes "BMMCPART" ++ (u16_bytes 2 ++ (u16_bytes pass ++ (0 ∷ 0 ∷ 0 ∷ 0 ∷ (u64_bytes loads ++ rest)))))
+part_parts : (pass loads : ℕ) → (rest : List ℕ) × (part_page pass loads ≡ codes "BMMCPART" ++ (u16_bytes 2 ++ (u16_bytes
+    pass ++ (0 ∷ 0 ∷ 0 ∷ 0 ∷ (u64_bytes loads ++ rest)))))
 unfolding part_page padded
 part_parts pass loads =
     (replicate (512 - length (codes "BMMCPART" ++ (u16_bytes 2 ++ (u16_bytes pass ++ (0 ∷ 0 ∷ 0 ∷ 0 ∷ u64_bytes loads))))) 0, simp append_assoc)

@@ -1,5 +1,7 @@
 -- Values with equal numbers are equal.
-use Rattle.std.proofs.Common.{◌≡◌, Result, Ok, Err, IsErrAnd, Option, Some, None, Bool, true, ℕ, ◌+◌, ◌*◌, ◌^◌, ◌<◌, ◌≤◌, List, slice_index, false, nat_lt, nat_le, arith, refl, ap, subst}
+use Rattle.std.proofs.Common.{◌≡◌, Result, Ok, Err, IsOk, IsErrAnd, Option, Some, None, Bool, true, ℕ, ◌+◌, ◌*◌, ◌^◌, ◌<◌, ◌≤◌, List, slice_index}
+use Rattle.std.proofs.Common.{false, nat_lt, nat_le, arith, refl, ap, subst}
+use Rattle.std.proofs.lemmas.Bool.{false≢true}
 use Rattle.std.proofs.lemmas.Bool.Decides.{nat_tests}
 use denote.Struct.Props.{props}
 use Rattle.std.proofs.Math.Path.{subst₂}
@@ -92,3 +94,7 @@ one_outcome b holds fails = cc
 pub error_is : {T E : Type 0} (r : Result T E) (e : E) → IsErrAnd r (λ x. x ≡ e) → r ≡ Err e
 error_is (Ok x) e h = absurd h
 error_is (Err x) e h = ap Err h
+
+pub error_fails : {T E : Type 0} (r : Result T E) (e : E) → IsErrAnd r (λ x. x ≡ e) → ¬ IsOk r
+error_fails (Ok x) e h ok = absurd h
+error_fails (Err x) e h ok = false≢true ok

@@ -1,5 +1,6 @@
 -- Images of a rack, and pages that no stop changes.
-use Rattle.std.proofs.Common.{◌≡◌, ◌⊎◌, inl, inr, ℕ, ◌<◌, Bool, true, false, List, [], length, slice_index_or, set, replicate, Some, Result, refl, sym, ◌∙◌, ap, subst, arith, length-set, get_or-set_same, get_or-set_other}
+use Rattle.std.proofs.Common.{◌≡◌, ◌⊎◌, inl, inr, ℕ, ◌<◌, Bool, true, false, List, [], length, slice_index_or, set, replicate, Some, Result, refl}
+use Rattle.std.proofs.Common.{sym, ◌∙◌, ap, subst, arith, length-set, get_or-set_same, get_or-set_other}
 use Rattle.std.proofs.lemmas.List.{length-replicate}
 use Rattle.std.proofs.lemmas.Bool.{false≢true, cases_eq}
 use Rattle.bm_base.specs.declared.dims.Dims.{Dims}
@@ -28,11 +29,13 @@ pub record Settled (P : List ℕ → Type 0) (page : ℕ) (v : RackView) : Type 
   pub clean : v.dirty (page_unit page) ≡ false
   pub holds : P (page_at v.contents page)
 
-pub settled_in_image : (P : List ℕ → Type 0) (page : ℕ) (v : RackView) (dims : Dims) (image : Contents) → Settled P page v → IsImage dims v image → P (page_at image page)
+pub settled_in_image : (P : List ℕ → Type 0) (page : ℕ) (v : RackView) (dims : Dims) (image : Contents) → Settled P page v → IsImage dims v image
+    → P (page_at image page)
 settled_in_image P page v dims image s i = subst P (sym (i.clean (page_unit page) s.clean)) s.holds
 
 -- a change elsewhere
-pub settled_within : (P : List ℕ → Type 0) (Q : RackUnit → Type 0) (page : ℕ) (old new : RackView) → DirtiesOnly Q old new → ¬ Q (page_unit page) → Settled P page old → Settled P page new
+pub settled_within : (P : List ℕ → Type 0) (Q : RackUnit → Type 0) (page : ℕ) (old new : RackView) → DirtiesOnly Q old new → ¬ Q (page_unit page)
+    → Settled P page old → Settled P page new
 settled_within P Q page old new w apart s = record {
   clean = w.dirty (page_unit page) apart s.clean;
   holds = subst P (sym (w.contents (page_unit page) apart)) s.holds;
@@ -47,11 +50,13 @@ pub image_self : (v : RackView) (dims : Dims) → HasSizes dims v.contents → I
 image_self v dims sizes = record { sizes = sizes; clean = λ u h. refl }
 
 -- where nothing is dirty there is no other image
-pub image_clean : (v : RackView) (dims : Dims) (image : Contents) → IsClean v → IsImage dims v image → (u : RackUnit) → unit_at image u ≡ unit_at v.contents u
+pub image_clean : (v : RackView) (dims : Dims) (image : Contents) → IsClean v → IsImage dims v image → (u : RackUnit)
+    → unit_at image u ≡ unit_at v.contents u
 image_clean v dims image clean i u = i.clean u (clean u)
 
 -- an image after a sync, whether it fails or not, is one from before it
-pub image_synced : {T : Type 0} (old new : RackView) (r : Result T Failed) (dims : Dims) (image : Contents) → Synced old r new → IsImage dims new image → IsImage dims old image
+pub image_synced : {T : Type 0} (old new : RackView) (r : Result T Failed) (dims : Dims) (image : Contents) → Synced old r new
+    → IsImage dims new image → IsImage dims old image
 image_synced old new r dims image s i = record {
   sizes = i.sizes;
   clean = λ u h. i.clean u ((DirtiesOnly-synced (λ _. ⊥) old new r s).dirty u (λ e. e) h) ∙ ap (λ c. unit_at c u) s.contents;
@@ -68,7 +73,8 @@ with_page : ℕ → List ℕ → Contents → Contents
 with_page page bytes c = record { disks = c.disks; pages = set c.pages page bytes }
 
 -- contents with a page put in keep their sizes
-with_page_sizes : (dims : Dims) (c : Contents) (page : ℕ) (bytes : List ℕ) → length bytes ≡ 512 → HasSizes dims c → HasSizes dims (with_page page bytes c)
+with_page_sizes : (dims : Dims) (c : Contents) (page : ℕ) (bytes : List ℕ) → length bytes ≡ 512 → HasSizes dims c
+    → HasSizes dims (with_page page bytes c)
 unfolding with_page
 with_page_sizes dims c page bytes long sizes = record {
   disks = sizes.disks;
@@ -94,7 +100,8 @@ with_page_other c page bytes (block_unit disk place) h = refl
 with_page_other c page bytes (page_unit k) h = get_or-set_other c.pages page k bytes [] h
 
 -- and the page is what was put in
-with_page_here : (dims : Dims) (c : Contents) (page : ℕ) (bytes : List ℕ) → page < 516 → HasSizes dims c → page_at (with_page page bytes c) page ≡ bytes
+with_page_here : (dims : Dims) (c : Contents) (page : ℕ) (bytes : List ℕ) → page < 516 → HasSizes dims c
+    → page_at (with_page page bytes c) page ≡ bytes
 unfolding with_page
 with_page_here dims c page bytes below sizes = get_or-set_same c.pages page bytes [] (let e = sizes.pages in omega (arith, e, below))
 
@@ -107,7 +114,8 @@ is_page_cases page (page_unit k) = elim (cases_eq k page) [
 ]
 
 -- a dirty page may be any page
-pub image_with_page : (v : RackView) (dims : Dims) (page : ℕ) (bytes : List ℕ) → page < 516 → length bytes ≡ 512 → HasSizes dims v.contents → v.dirty (page_unit page) ≡ true
+pub image_with_page : (v : RackView) (dims : Dims) (page : ℕ) (bytes : List ℕ) → page < 516 → length bytes ≡ 512 → HasSizes dims v.contents
+    → v.dirty (page_unit page) ≡ true
     → (image : Contents) × IsImage dims v image × (page_at image page ≡ bytes)
 image_with_page v dims page bytes below long sizes dirty = (
   with_page page bytes v.contents,
@@ -126,7 +134,8 @@ bool_cases true = inl refl
 bool_cases false = inr refl
 
 -- a page that is no such page as this one in any image is clean
-pub never_settled : (P : List ℕ → Type 0) (v : RackView) (dims : Dims) (page : ℕ) (bytes : List ℕ) → page < 516 → length bytes ≡ 512 → v.stands ≡ Some dims
+pub never_settled : (P : List ℕ → Type 0) (v : RackView) (dims : Dims) (page : ℕ) (bytes : List ℕ) → page < 516 → length bytes ≡ 512
+    → v.stands ≡ Some dims
     → HasSizes dims v.contents → ¬ P bytes → InEveryImage (λ c. P (page_at c page)) v → Settled P page v
 never_settled P v dims page bytes below long stands sizes none every = record {
   clean = elim (bool_cases (v.dirty (page_unit page))) [
@@ -148,7 +157,8 @@ closed_settled v dims page below stands sizes closed =
 pub open_settled : (v : RackView) (dims : Dims) (page : ℕ) → page < 516 → v.stands ≡ Some dims → HasSizes dims v.contents
     → InEveryImage (λ c. IsOpenGate (page_at c page)) v → Settled IsOpenGate page v
 open_settled v dims page below stands sizes opened =
-    never_settled IsOpenGate v dims page (replicate 512 0) below (length-replicate {A = ℕ} 512 0) stands sizes (λ is. zeros_closed (replicate 512 0) refl is) opened
+    never_settled IsOpenGate v dims page (replicate 512 0) below (length-replicate {A = ℕ} 512 0) stands sizes
+    (λ is. zeros_closed (replicate 512 0) refl is) opened
 
 -- contents that are the same but for these pages
 pub record DiffersIn (P : ℕ → Type 0) (a b : Contents) : Type 0 where
@@ -166,7 +176,8 @@ differs_of_units page a b same = record {
 }
 
 -- an image after a page was written is one from before it, with that page put back
-pub image_back : (page : ℕ) (old new : RackView) (dims : Dims) (image : Contents) → page < 516 → HasSizes dims old.contents → DirtiesOnly (IsPage page) old new → IsImage dims new image
+pub image_back : (page : ℕ) (old new : RackView) (dims : Dims) (image : Contents) → page < 516 → HasSizes dims old.contents
+    → DirtiesOnly (IsPage page) old new → IsImage dims new image
     → (before : Contents) × IsImage dims old before × DiffersAt page before image
 image_back page old new dims image below sizes w i = (
   with_page page (page_at old.contents page) image,
@@ -193,7 +204,8 @@ image_same page old new dims image w i here = record {
 }
 
 -- an image after a page of a clean rack was written differs from the contents in that page alone
-pub image_of_clean : (page : ℕ) (old new : RackView) (dims : Dims) (image : Contents) → IsClean old → DirtiesOnly (IsPage page) old new → IsImage dims new image
+pub image_of_clean : (page : ℕ) (old new : RackView) (dims : Dims) (image : Contents) → IsClean old → DirtiesOnly (IsPage page) old new
+    → IsImage dims new image
     → DiffersAt page old.contents image
 image_of_clean page old new dims image clean w i =
     differs_of_units page old.contents image (λ u not. i.clean u (w.dirty u not (clean u)) ∙ w.contents u not)

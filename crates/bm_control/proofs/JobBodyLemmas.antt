@@ -1,5 +1,6 @@
 -- What stands where in a job body and in a pass body.
-use Rattle.std.proofs.Common.{◌≡◌, ◌≢◌, inl, inr, ⊎_elim, ℕ, ◌+◌, ◌-◌, ◌*◌, ◌^◌, ◌<◌, ◌≤◌, ◌==◌, true, false, List, codes, length, drop, slice_index, refl, ap, ◌∙◌, arith}
+use Rattle.std.proofs.Common.{◌≡◌, ◌≢◌, inl, inr, ⊎_elim, ℕ, ◌+◌, ◌-◌, ◌*◌, ◌^◌, ◌<◌, ◌≤◌, ◌==◌, true, false, List, codes, length, drop}
+use Rattle.std.proofs.Common.{slice_index, refl, ap, ◌∙◌, arith}
 use Rattle.std.specs.Int.{div_ceil}
 use Rattle.std.proofs.lemmas.Bool.{cases_lt, cases_eq}
 use Rattle.std.proofs.lemmas.Bool.Decides.{nat_tests}
@@ -13,7 +14,8 @@ use Rattle.bm_forms.specs.declared.job.Job.TheVariants.{Permute, Walsh}
 use Rattle.bm_forms.specs.declared.pass_form.PassForm.{PassForm}
 use Rattle.bm_forms.specs.PassLimit.{limit_of, rotation_columns, rotation_limit, rounds_of, last_bits}
 use Rattle.bm_forms.proofs.PassLimitLemmas.{limit_few}
-use Rattle.bm_control.specs.Bodies.{loads_of, u16_in, u64_in, body_head, map_bytes, map_page, kind_of, job_map, job_version, named_loads, job_page, pass_page, IsJobBody, IsPassBody}
+use Rattle.bm_control.specs.Bodies.{loads_of, u16_in, u64_in, body_head, map_bytes, map_page, kind_of, job_map, job_version, named_loads, job_page}
+use Rattle.bm_control.specs.Bodies.{pass_page, IsJobBody, IsPassBody}
 use Rattle.bm_control.proofs.BodyLemmas.{length-body_head, length-map_bytes, loads_small, version_of, first_of, number_of_head, last_of}
 
 -- the rounds of the transform have few passes together
@@ -44,7 +46,8 @@ limit-most s (Permute f) =
     let p = limit_few f.a.cols s.b s.m (rank_of_rows f.a.cols s.b s.b) s.keeps.block refl in
     omega (arith, p, few, less, block)
 limit-most s Walsh =
-    rounds_most s.n s.m s.b (rounds_of s - 1) (rotation_limit s s.m) (rotation_limit s (last_bits s)) s.keeps.block s.keeps.memory s.keeps.addresses refl
+    rounds_most s.n s.m s.b (rounds_of s - 1) (rotation_limit s s.m)
+    (rotation_limit s (last_bits s)) s.keeps.block s.keeps.memory s.keeps.addresses refl
     (limit_few (rotation_columns s.n s.m s.n) s.b s.m (rank_of_rows (rotation_columns s.n s.m s.n) s.b s.b) s.keeps.block refl)
     (limit_few (rotation_columns s.n (last_bits s) s.n) s.b s.m (rank_of_rows (rotation_columns s.n (last_bits s) s.n) s.b s.b) s.keeps.block refl)
 
@@ -102,10 +105,13 @@ job_numbers s page job passes every body =
     let short = job_map_short s job in
     let head = length-body_head (codes "BMMCTASK") (job_version s every) (kind_of job) s.n passes refl in
     record {
-      version = version_of (codes "BMMCTASK") (job_map job) page (job_version s every) (kind_of job) s.n passes (named_loads s every) refl (version_small s every) body.page_is;
+      version = version_of (codes "BMMCTASK") (job_map job) page (job_version s every) (kind_of job) s.n passes (named_loads s every) refl
+          (version_small s every) body.page_is;
       kind = first_of (codes "BMMCTASK") (job_map job) page (job_version s every) (kind_of job) s.n passes (named_loads s every) refl body.page_is;
-      passes_are = number_of_head (codes "BMMCTASK") (job_map job) page (job_version s every) (kind_of job) s.n passes (named_loads s every) refl (omega arith) body.page_is;
-      named = last_of (body_head (codes "BMMCTASK") (job_version s every) (kind_of job) s.n passes) (job_map job) page (named_loads s every) (omega arith) (named_small s every body.fits.every_few) body.page_is;
+      passes_are = number_of_head (codes "BMMCTASK") (job_map job) page (job_version s every) (kind_of job) s.n passes (named_loads s every) refl
+          (omega arith) body.page_is;
+      named = last_of (body_head (codes "BMMCTASK") (job_version s every) (kind_of job) s.n passes) (job_map job) page (named_loads s every)
+          (omega arith) (named_small s every body.fits.every_few) body.page_is;
     }
 
 -- the bits with butterflies of a pass body

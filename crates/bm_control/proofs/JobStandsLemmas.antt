@@ -16,14 +16,16 @@ use Rattle.bm_forms.specs.declared.pass_form.PassForm.{PassForm}
 use Rattle.bm_forms.specs.Job.{meaning}
 use Rattle.bm_forms.specs.Plan.{all_passed}
 use Rattle.bm_control.specs.Bodies.{loads_of, load_page, IsJobBody, IsPassBody, IsPartBody}
-use Rattle.bm_control.specs.Consistent.{pass_body, pass_gate, slot_body, slot_gate, input_of, GatesAre, LoadsMoved, SlotStands, JobStands, IsConsistent}
+use Rattle.bm_control.specs.Consistent.{pass_body, pass_gate, slot_body, slot_gate, input_of, GatesAre, LoadsMoved, SlotStands, JobStands}
+use Rattle.bm_control.specs.Consistent.{IsConsistent}
 use Rattle.bm_control.proofs.ImageLemmas.{DiffersIn}
 use Rattle.bm_control.proofs.JobBodyLemmas.{limit-most}
 
 -- the records are the same where the blocks are
 pub recs_same : (P : ℕ → Type 0) (s : Shape) (area : Area) (a b : Contents) → DiffersIn P a b → record_at b s area ≡ record_at a s area
 recs_same P s area a b d =
-    fun_ext (λ (x : ℕ). ap (λ (bytes : List ℕ). slice_chunk bytes s.width (x % 2 ^ s.b)) (d.blocks (x / 2 ^ s.b % 2 ^ s.d) (area_start s area + x / 2 ^ s.b / 2 ^ s.d)))
+    fun_ext (λ (x : ℕ). ap (λ (bytes : List ℕ). slice_chunk bytes s.width (x % 2 ^ s.b))
+    (d.blocks (x / 2 ^ s.b % 2 ^ s.d) (area_start s area + x / 2 ^ s.b / 2 ^ s.d)))
 
 -- an open job has few passes
 pub job_few : (s : Shape) (v : Contents) (j : JobStands s v) → length j.forms ≤ 254
@@ -57,8 +59,10 @@ job_kept P s a b j done d two bodies gates work slots = record {
   every = j.every;
   body = subst (λ (p : List ℕ). IsJobBody s p j.job (length j.forms) j.every) (sym (d.pages 2 two)) j.body;
   of_shape = j.of_shape;
-  bodies = λ k pass is. subst (λ (p : List ℕ). IsPassBody s k p pass) (sym (d.pages (pass_body k) (bodies k (slice_get_within j.forms k pass is)))) (j.bodies k pass is);
-  means = subst (λ (input : ℕ → List ℕ). SameRecords (2 ^ s.n) (all_passed j.forms input) (meaning s.n j.job input)) (sym (recs_same P s Input a b d)) j.means;
+  bodies = λ k pass is. subst (λ (p : List ℕ). IsPassBody s k p pass) (sym (d.pages (pass_body k) (bodies k (slice_get_within j.forms k pass is))))
+      (j.bodies k pass is);
+  means = subst (λ (input : ℕ → List ℕ). SameRecords (2 ^ s.n) (all_passed j.forms input) (meaning s.n j.job input))
+      (sym (recs_same P s Input a b d)) j.means;
   done = done;
   gates = gates;
   work = subst₂ (λ (target input : ℕ → List ℕ). SameRecords (2 ^ s.n) target (all_passed (take done j.forms) input))
@@ -67,7 +71,8 @@ job_kept P s a b j done d two bodies gates work slots = record {
 }
 
 -- the pass gates, where another page is changed
-pub gates_kept : (P : ℕ → Type 0) (a b : Contents) (passes done : ℕ) → DiffersIn P a b → ((k : ℕ) → k < passes → ¬ P (pass_gate k)) → GatesAre a passes done → GatesAre b passes done
+pub gates_kept : (P : ℕ → Type 0) (a b : Contents) (passes done : ℕ) → DiffersIn P a b → ((k : ℕ) → k < passes → ¬ P (pass_gate k))
+    → GatesAre a passes done → GatesAre b passes done
 gates_kept P a b passes done d other g = record {
   few = g.few;
   opened = λ k h. d.pages (pass_gate k) (other k (let few = g.few in omega (arith, few, h))) ∙ g.opened k h;

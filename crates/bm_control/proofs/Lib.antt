@@ -7,5 +7,6 @@ pub mod ImageLemmas
 pub mod JobStandsLemmas
 pub mod SoundLemmas
 pub mod StateLemmas
+pub mod StateCallLemmas
 pub mod MomentLemmas
 pub mod StartLemmas

@@ -48,7 +48,8 @@ load_unique s t page one two =
     shape_equal s t (sym x.n ∙ y.n) (sym x.b ∙ y.b) (sym x.d ∙ y.d) (sym x.m ∙ y.m) (sym x.width ∙ y.width)
 
 -- the pass gates, with that of pass k + 1 open besides
-gates_opened : (a b : Contents) (passes k : ℕ) → DiffersAt (pass_gate k) a b → k < passes → IsOpenGate (page_at b (pass_gate k)) → GatesAre a passes k → GatesAre b passes (k + 1)
+gates_opened : (a b : Contents) (passes k : ℕ) → DiffersAt (pass_gate k) a b → k < passes → IsOpenGate (page_at b (pass_gate k))
+    → GatesAre a passes k → GatesAre b passes (k + 1)
 gates_opened a b passes k d below gate g = record {
   few = omega (arith, below);
   opened = λ i h. elim (cases_eq i k) [
@@ -59,7 +60,8 @@ gates_opened a b passes k d below gate g = record {
 }
 
 -- and with that of pass k + 1 closed as before
-gates_closed : (a b : Contents) (passes k : ℕ) → DiffersAt (pass_gate k) a b → IsClosedGate (page_at b (pass_gate k)) → GatesAre a passes k → GatesAre b passes k
+gates_closed : (a b : Contents) (passes k : ℕ) → DiffersAt (pass_gate k) a b → IsClosedGate (page_at b (pass_gate k)) → GatesAre a passes k
+    → GatesAre b passes k
 gates_closed a b passes k d gate g = record {
   few = g.few;
   opened = λ i h. d.pages (pass_gate i) (λ e. omega (arith, e, h)) ∙ g.opened i h;
@@ -76,7 +78,8 @@ job_opening s a b k j now below d records =
     let few = job_few s a j in
     let gates = subst (GatesAre a (length j.forms)) now j.gates in
     elim (gate_cases (page_at b (pass_gate k))) [
-      | inl opened ↦ job_kept (λ i. i ≡ pass_gate k) s a b j (k + 1) d (λ e. omega (arith, e)) (λ i h e. omega (arith, e)) (gates_opened a b (length j.forms) k d below opened gates) records
+      | inl opened ↦ job_kept (λ i. i ≡ pass_gate k) s a b j (k + 1) d (λ e. omega (arith, e)) (λ i h e. omega (arith, e))
+          (gates_opened a b (length j.forms) k d below opened gates) records
           (λ less slot h gate.
           let t = j.slots less slot h (sym (d.pages (slot_gate slot) (λ e. omega (arith, e, few, below, h))) ∙ gate) in
           let soon = t.soon in
@@ -103,7 +106,8 @@ sound_opening old new dims k stands sizes sound clean p w =
     sound_page (pass_gate k) old new dims (omega (arith, few, below)) (λ e. omega (arith, e)) stands sizes sound w (λ before image was i d c.
     let d' = image_of_clean (pass_gate k) old new dims image clean w i in
     let c' = sound.consistent dims stands dims old.contents stands (image_self old dims sizes) in
-    consistent_kept (λ i. i ≡ pass_gate k) dims old.contents image d' (λ e. omega (arith, e)) (λ e. omega (arith, e)) (λ e. omega (arith, e)) c' (λ gate s body j.
+    consistent_kept (λ i. i ≡ pass_gate k) dims old.contents image d' (λ e. omega (arith, e)) (λ e. omega (arith, e)) (λ e. omega (arith, e)) c'
+    (λ gate s body j.
     subst (λ (t : Shape). JobStands t image) (load_unique p.shape s (page_at old.contents 0) p.load body)
     (job_opening p.shape old.contents image k p.job p.now p.below d' p.records)))
 
@@ -115,7 +119,8 @@ in_body : (slot : ℕ) (a b : Contents) → DiffersAt (slot_body slot) a b → D
 in_body slot a b d = record { blocks = d.blocks; pages = λ k not. d.pages k (λ is. not (inl is)) }
 
 -- consistent contents of which a slot is changed, and is closed now
-slot_closed : (slot : ℕ) (dims : Dims) (a b : Contents) → DiffersIn (InSlot slot) a b → IsClosedGate (page_at b (slot_gate slot)) → IsConsistent dims a → IsConsistent dims b
+slot_closed : (slot : ℕ) (dims : Dims) (a b : Contents) → DiffersIn (InSlot slot) a b → IsClosedGate (page_at b (slot_gate slot))
+    → IsConsistent dims a → IsConsistent dims b
 slot_closed slot dims a b d closed c =
     consistent_kept (InSlot slot) dims a b d (slot_late slot 0 (omega arith)) (slot_late slot 1 (omega arith)) (slot_late slot 3 (omega arith)) c
     (λ gate s body j. job_slot slot s a b j d (λ less opened. absurd (closed opened)))
@@ -141,15 +146,18 @@ sound_writing_part old new dims slot below stands sizes sound shut w =
 
 -- contents before a slot was closed and its body written, and an image after its gate was
 marked : (slot : ℕ) (first second third : RackView) (dims : Dims) (image : Contents) → DirtiesOnly (IsPage (slot_gate slot)) first second
-    → DirtiesOnly (IsPage (slot_body slot)) second third → DiffersAt (slot_gate slot) third.contents image → DiffersIn (InSlot slot) first.contents image
+    → DirtiesOnly (IsPage (slot_body slot)) second third → DiffersAt (slot_gate slot) third.contents image
+    → DiffersIn (InSlot slot) first.contents image
 marked slot first second third dims image w x d = record {
   blocks = λ disk place. d.blocks disk place ∙ x.contents (block_unit disk place) (λ e. e) ∙ w.contents (block_unit disk place) (λ e. e);
   pages = λ k not. d.pages k (λ is. not (inr is)) ∙ x.contents (page_unit k) (λ is. not (inl is)) ∙ w.contents (page_unit k) (λ is. not (inr is));
 }
 
 -- while the gate of a slot is written whose body is on the disks, as are the loads that it counts
-pub sound_marking : (slot pass loads : ℕ) (s : Shape) (first second old new : RackView) (dims : Dims) → slot < 2 → PartBodyFits s pass loads → old.stands ≡ Some dims
-    → HasSizes dims old.contents → IsSound old → IsClean old → PartIsMoved s first.contents pass loads → DirtiesOnly (IsPage (slot_gate slot)) first second
+pub sound_marking : (slot pass loads : ℕ) (s : Shape) (first second old new : RackView) (dims : Dims) → slot < 2 → PartBodyFits s pass loads
+    → old.stands ≡ Some dims
+    → HasSizes dims old.contents → IsSound old → IsClean old → PartIsMoved s first.contents pass loads
+    → DirtiesOnly (IsPage (slot_gate slot)) first second
     → DirtiesOnly (IsPage (slot_body slot)) second old → page_at old.contents (slot_body slot) ≡ part_page pass loads
     → DirtiesOnly (IsPage (slot_gate slot)) old new → IsSound new
 sound_marking slot pass loads s first second old new dims below fits stands sizes sound clean p w x body y =
@@ -158,7 +166,8 @@ sound_marking slot pass loads s first second old new dims below fits stands size
     let all = marked slot first second old dims image w x d' in
     let zero = x.contents (page_unit 0) (λ e. omega (arith, e)) ∙ w.contents (page_unit 0) (λ e. omega (arith, e)) in
     let c' = sound.consistent dims stands dims old.contents stands (image_self old dims sizes) in
-    consistent_kept (λ k. k ≡ slot_gate slot) dims old.contents image d' (λ e. omega (arith, e)) (λ e. omega (arith, e)) (λ e. omega (arith, e)) c' (λ gate t loaded j.
+    consistent_kept (λ k. k ≡ slot_gate slot) dims old.contents image d' (λ e. omega (arith, e)) (λ e. omega (arith, e)) (λ e. omega (arith, e)) c'
+    (λ gate t loaded j.
     subst (λ (u : Shape). JobStands u image) (load_unique s t (page_at old.contents 0) (zero ∙ p.load) loaded)
     (job_slot slot s first.contents image p.job all (λ less opened. record {
       pass = pass;
@@ -167,5 +176,6 @@ sound_marking slot pass loads s first second old new dims below fits stands size
       known = p.known;
       soon = (let now = p.now in omega (arith, now));
       moved = λ now form is. subst₂ (λ (target input : ℕ → List ℕ). LoadsMoved s form loads target (all_passed (take pass p.job.forms) input))
-          (sym (recs_same (InSlot slot) s (area_after pass) first.contents image all)) (sym (recs_same (InSlot slot) s Input first.contents image all)) (p.moved form is);
+          (sym (recs_same (InSlot slot) s (area_after pass) first.contents image all))
+          (sym (recs_same (InSlot slot) s Input first.contents image all)) (p.moved form is);
     }))))

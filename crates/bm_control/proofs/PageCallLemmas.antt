@@ -36,7 +36,8 @@ later succeeds p s p' s' a b c well x y =
     }
 
 -- a call that fails before its end
-pub early : (first succeeds : Type 0) (p s p' s' : ℕ) (a b : RackView) → ¬ succeeds → p ≤ p' → s ≤ s' → MakesPageCalls first p s a b → MakesPageCalls succeeds p' s' a b
+pub early : (first succeeds : Type 0) (p s p' s' : ℕ) (a b : RackView) → ¬ succeeds → p ≤ p' → s ≤ s' → MakesPageCalls first p s a b
+    → MakesPageCalls succeeds p' s' a b
 early first succeeds p s p' s' a b fails fewer_pages fewer_syncs x = record {
   done = λ ok. absurd (fails ok);
   moves = x.moves;
@@ -47,7 +48,8 @@ early first succeeds p s p' s' a b fails fewer_pages fewer_syncs x = record {
 }
 
 -- a page that was read, and pages after it
-pub reads_pages : {tells_stands tells_contents : Bool} (succeeds : Type 0) (p most : ℕ) (a b c : RackView) → IsWellFormed tells_stands tells_contents a → 1 + p ≤ most
+pub reads_pages : {tells_stands tells_contents : Bool} (succeeds : Type 0) (p most : ℕ) (a b c : RackView)
+    → IsWellFormed tells_stands tells_contents a → 1 + p ≤ most
     → RaisesCounts 0 1 0 a b → MakesPageCalls succeeds p 0 b c → ReadsPages 0 most a c
 reads_pages succeeds p most a b c well fewer x y =
     let fp = well.pages in
@@ -60,7 +62,8 @@ reads_pages succeeds p most a b c well fewer x y =
     }
 
 -- pages that were read exactly, and pages after them
-pub reads_more : {tells_stands tells_contents : Bool} (p least more most : ℕ) (a b c : RackView) → IsWellFormed tells_stands tells_contents a → p + more ≤ most
+pub reads_more : {tells_stands tells_contents : Bool} (p least more most : ℕ) (a b c : RackView) → IsWellFormed tells_stands tells_contents a
+    → p + more ≤ most
     → RaisesCounts 0 p 0 a b → ReadsPages 0 more b c → least ≤ p → ReadsPages least most a c
 reads_more p least more most a b c well fewer x y few =
     let fp = well.pages in

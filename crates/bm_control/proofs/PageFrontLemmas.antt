@@ -1,6 +1,7 @@
 -- Pages that are filled from their front.
 use Rattle.std.proofs.Common.{◌≡◌, ℕ, ◌+◌, ◌-◌, ◌≤◌, List, ◌++◌, length, take, drop, replicate, sym, ap, ◌∙◌, arith}
-use Rattle.std.proofs.lemmas.List.{length-replicate, drop-replicate, length-append, length-take-le, take-replicate, take-append-drop, drop-drop, length-drop, append-nil}
+use Rattle.std.proofs.lemmas.List.{length-replicate, drop-replicate, length-append, length-take-le, take-replicate, take-append-drop, drop-drop}
+use Rattle.std.proofs.lemmas.List.{length-drop, append-nil}
 use Rattle.std.proofs.lemmas.Slice.{drop-put_mid, take-put_mid}
 use Rattle.std.proofs.Math.Seq.{take-add}
 use borrow.Rule.Slice.PartMut.{put_mid}
@@ -68,7 +69,8 @@ pub length-padded : (size : ℕ) (bytes : List ℕ) → length bytes ≤ size �
 unfolding padded
 length-padded size bytes h =
     let e : length (replicate (size - length bytes) 0) ≡ size - length bytes = length-replicate (size - length bytes) 0 in
-    length-append bytes (replicate (size - length bytes) 0) ∙ ap (λ (n : ℕ). length bytes + n) e ∙ (let sum : length bytes + (size - length bytes) ≡ size = omega arith in sum)
+    length-append bytes (replicate (size - length bytes) 0) ∙ ap (λ (n : ℕ). length bytes + n) e
+    ∙ (let sum : length bytes + (size - length bytes) ≡ size = omega arith in sum)
 
 -- bytes that fill the page
 pub padded_full : (size : ℕ) (bytes : List ℕ) → length bytes ≡ size → padded size bytes ≡ bytes

@@ -53,9 +53,11 @@ sound_loaded v s stands body three clean = record {
 }
 
 -- where one page was written or is being written, and it is not the load gate
-pub sound_page : (page : ℕ) (old new : RackView) (dims : Dims) → page < 516 → page ≢ 1 → old.stands ≡ Some dims → HasSizes dims old.contents → IsSound old
+pub sound_page : (page : ℕ) (old new : RackView) (dims : Dims) → page < 516 → page ≢ 1 → old.stands ≡ Some dims → HasSizes dims old.contents
+    → IsSound old
     → DirtiesOnly (IsPage page) old new
-    → ((before image : Contents) → IsImage dims old before → IsImage dims new image → DiffersAt page before image → IsConsistent dims before → IsConsistent dims image)
+    → ((before image : Contents) → IsImage dims old before → IsImage dims new image → DiffersAt page before image → IsConsistent dims before
+    → IsConsistent dims image)
     → IsSound new
 sound_page page old new dims below other stands sizes sound w keeps = record {
   consistent = λ d is d' image is' i.
@@ -69,7 +71,8 @@ sound_page page old new dims below other stands sizes sound w keeps = record {
       let i' = subst (λ x. IsImage x new image) same i in
       let input' = subst (λ (x : Dims). IsInputUnit x u) same input in
       let back = image_back page old new dims image below sizes w i' in
-      w.dirty u (input_no_page page dims u input') (sound.input dims back.0 stands back.1 (sym (back.2.pages 1 (λ e. other (sym e))) ∙ gate) u input');
+      w.dirty u (input_no_page page dims u input') (sound.input dims back.0 stands back.1
+      (sym (back.2.pages 1 (λ e. other (sym e))) ∙ gate) u input');
 }
 
 -- while the open job gate of a clean rack is written over
@@ -106,15 +109,18 @@ sound_closing_load old new dims stands sound clean gate shut w = record {
 -- a sync, whether it fails or not, leaves a sound rack
 pub sound_synced : {T : Type 0} (old new : RackView) (r : Result T Failed) → Synced old r new → IsSound old → IsSound new
 sound_synced old new r s sound = record {
-  consistent = λ dims is dims' image is' i. sound.consistent dims (sym s.stands ∙ is) dims' image (sym s.stands ∙ is') (image_synced old new r dims' image s i);
+  consistent = λ dims is dims' image is' i. sound.consistent dims (sym s.stands ∙ is) dims' image (sym s.stands ∙ is')
+      (image_synced old new r dims' image s i);
   input = λ dims image is i gate u input.
-      (DirtiesOnly-synced (λ _. ⊥) old new r s).dirty u (λ e. e) (sound.input dims image (sym s.stands ∙ is) (image_synced old new r dims image s i) gate u input);
+      (DirtiesOnly-synced (λ _. ⊥) old new r s).dirty u (λ e. e)
+      (sound.input dims image (sym s.stands ∙ is) (image_synced old new r dims image s i) gate u input);
 }
 
 -- nothing but counts and stops changed
 pub sound_same : (old new : RackView) → SameState old new → IsSound old → IsSound new
 sound_same old new s sound = record {
-  consistent = λ dims is dims' image is' i. sound.consistent dims (sym s.stands ∙ is) dims' image (sym s.stands ∙ is') (image_state old new dims' image s i);
+  consistent = λ dims is dims' image is' i. sound.consistent dims (sym s.stands ∙ is) dims' image (sym s.stands ∙ is')
+      (image_state old new dims' image s i);
   input = λ dims image is i gate u input.
       ap (λ (f : RackUnit → Bool). f u) s.dirty ∙ sound.input dims image (sym s.stands ∙ is) (image_state old new dims image s i) gate u input;
 }

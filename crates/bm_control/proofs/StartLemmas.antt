@@ -1,5 +1,6 @@
 -- A rack while a job is opened.
-use Rattle.std.proofs.Common.{◌≡◌, ◌≢◌, ◌⊎◌, inl, inr, ℕ, ◌+◌, ◌*◌, ◌<◌, ◌≤◌, false, List, length, slice_get, get_or, Some, refl, sym, ◌∙◌, ap, subst, arith}
+use Rattle.std.proofs.Common.{◌≡◌, ◌≢◌, ◌⊎◌, inl, inr, ℕ, ◌+◌, ◌*◌, ◌<◌, ◌≤◌, false, List, length, slice_get, get_or, Some, refl, sym, ◌∙◌, ap}
+use Rattle.std.proofs.Common.{subst, arith}
 use Rattle.std.specs.List.{slice_index_or}
 use Rattle.std.proofs.lemmas.Bool.{cases_eq}
 use Rattle.std.proofs.lemmas.Option.{slice_get_within, slice_get-get_or}
@@ -20,7 +21,8 @@ use Rattle.bm_control.specs.Consistent.{pass_body, pass_gate, slot_gate, input_o
 use Rattle.bm_control.specs.Moments.{PassesAreWritten, JobIsWritten}
 use Rattle.bm_control.specs.Sound.{IsSound}
 use Rattle.bm_control.proofs.EqualLemmas.{some_injective}
-use Rattle.bm_control.proofs.ImageLemmas.{Settled, settled_within, never_settled, open_settled, closed_settled, length-open_gate, image_self, image_of_clean, DiffersAt}
+use Rattle.bm_control.proofs.ImageLemmas.{Settled, settled_within, never_settled, open_settled, closed_settled, length-open_gate, image_self}
+use Rattle.bm_control.proofs.ImageLemmas.{image_of_clean, DiffersAt}
 use Rattle.bm_control.proofs.SoundLemmas.{sound_loaded, sound_page}
 use Rattle.bm_control.proofs.MomentLemmas.{load_unique}
 use Rattle.bm_control.specs.PageCalls.{IsPassPage, IsSlotGate, IsJobPage, IsStartPage}
@@ -50,8 +52,10 @@ written_more s forms k pass old new is w body gate before = record {
   bodies = λ i other h there. elim (cases_eq i k) [
     | inl same ↦
         let one : pass ≡ other = some_injective pass other (sym is ∙ ap (slice_get forms) (sym same) ∙ there) in
-        subst (λ (x : ℕ). IsPassBody s x (page_at new.contents (pass_body x)) other) (sym same) (subst (IsPassBody s k (page_at new.contents (pass_body k))) one body)
-    | inr not ↦ subst (λ (p : List ℕ). IsPassBody s i p other) (sym (w.contents (page_unit (pass_body i)) (apart_body i not))) (before.bodies i other (omega (arith, h, not)) there)
+        subst (λ (x : ℕ). IsPassBody s x (page_at new.contents (pass_body x)) other) (sym same)
+        (subst (IsPassBody s k (page_at new.contents (pass_body k))) one body)
+    | inr not ↦ subst (λ (p : List ℕ). IsPassBody s i p other) (sym (w.contents (page_unit (pass_body i)) (apart_body i not)))
+        (before.bodies i other (omega (arith, h, not)) there)
   ];
   gates = λ i h. elim (cases_eq i k) [
     | inl same ↦ subst (λ (x : ℕ). IsClosedGate (page_at new.contents (pass_gate x))) (sym same) gate
@@ -68,10 +72,12 @@ written_more s forms k pass old new is w body gate before = record {
     apart_gate i not (inr e) = not (omega (arith, e))
 
 -- the pages of the passes are as before where the gates of the slots are changed
-pub passes_kept : (s : Shape) (forms : List PassForm) (k : ℕ) (old new : RackView) → k ≤ 254 → DirtiesOnly IsSlotGate old new → PassesAreWritten s forms k old.contents
+pub passes_kept : (s : Shape) (forms : List PassForm) (k : ℕ) (old new : RackView) → k ≤ 254 → DirtiesOnly IsSlotGate old new
+    → PassesAreWritten s forms k old.contents
     → PassesAreWritten s forms k new.contents
 passes_kept s forms k old new few w before = record {
-  bodies = λ i pass h there. subst (λ (p : List ℕ). IsPassBody s i p pass) (sym (w.contents (page_unit (pass_body i)) (no_slot (pass_body i) (omega arith)))) (before.bodies i pass h there);
+  bodies = λ i pass h there. subst (λ (p : List ℕ). IsPassBody s i p pass)
+      (sym (w.contents (page_unit (pass_body i)) (no_slot (pass_body i) (omega arith)))) (before.bodies i pass h there);
   gates = λ i h. subst IsClosedGate (sym (w.contents (page_unit (pass_gate i)) (no_slot (pass_gate i) (omega arith)))) (before.gates i h);
 }
   where
@@ -81,7 +87,8 @@ passes_kept s forms k old new few w before = record {
 
 -- all pages of the job
 pub job_written : (s : Shape) (job : Job) (forms : List PassForm) (every : ℕ) (v : Contents) → IsJobBody s (page_at v 2) job (length forms) every
-    → PassesAreWritten s forms (length forms) v → (every < loads_of s → (IsClosedGate (page_at v 513)) × IsClosedGate (page_at v 515)) → JobIsWritten s job forms every v
+    → PassesAreWritten s forms (length forms) v → (every < loads_of s → (IsClosedGate (page_at v 513)) × IsClosedGate (page_at v 515))
+    → JobIsWritten s job forms every v
 job_written s job forms every v body passes slots = record {
   body = body;
   bodies = λ k pass there. passes.bodies k pass (slice_get_within forms k pass there) there;
@@ -97,7 +104,8 @@ pub job_written_kept : (s : Shape) (job : Job) (forms : List PassForm) (every : 
     → JobIsWritten s job forms every old.contents → JobIsWritten s job forms every new.contents
 job_written_kept s job forms every old new w j = record {
   body = subst (λ (p : List ℕ). IsJobBody s p job (length forms) every) (sym (w.contents (page_unit 2) (λ e. omega (arith, e)))) j.body;
-  bodies = λ k pass there. subst (λ (p : List ℕ). IsPassBody s k p pass) (sym (w.contents (page_unit (pass_body k)) (λ e. omega (arith, e)))) (j.bodies k pass there);
+  bodies = λ k pass there. subst (λ (p : List ℕ). IsPassBody s k p pass) (sym (w.contents (page_unit (pass_body k)) (λ e. omega (arith, e))))
+      (j.bodies k pass there);
   gates = λ k h. subst IsClosedGate (sym (w.contents (page_unit (pass_gate k)) (λ e. omega (arith, e)))) (j.gates k h);
   slots = λ less slot h. subst IsClosedGate (sym (w.contents (page_unit (slot_gate slot)) (λ e. omega (arith, e)))) (j.slots less slot h);
 }
@@ -110,6 +118,15 @@ pub record IsLoadedRack (s : Shape) (v : RackView) : Type 0 where
   pub job_gate : Settled IsClosedGate 3 v
   pub input : (u : RackUnit) → IsInputUnit (dims_of s) u → v.dirty u ≡ false
 
+-- the sizes of a sound rack are those of the shape that is loaded
+pub loaded_stands : (s : Shape) (v : RackView) (dims : Dims) → v.stands ≡ Some dims → HasSizes dims v.contents → IsSound v
+    → InEveryImage (λ c. IsOpenGate (page_at c 1)) v
+    → page_at v.contents 0 ≡ load_page s → v.stands ≡ Some (dims_of s)
+loaded_stands s v dims stands sizes sound opened body =
+    let self = image_self v dims sizes in
+    let l = (sound.consistent dims stands dims v.contents stands self).loaded (opened dims v.contents stands self) in
+    stands ∙ ap Some (sym l.dims_are ∙ ap dims_of (load_unique l.shape s (page_at v.contents 0) l.body body))
+
 -- an open gate is no load body
 gate_no_body : ¬ ((s : Shape) × (open_gate ≡ load_page s))
 unfolding open_gate load_page padded
@@ -119,7 +136,8 @@ gate_no_body found =
 
 -- at its beginning
 pub loaded_start : (s : Shape) (v : RackView) → v.stands ≡ Some (dims_of s) → HasSizes (dims_of s) v.contents → IsSound v
-    → InEveryImage (λ c. IsOpenGate (page_at c 1)) v → InEveryImage (λ c. IsClosedGate (page_at c 3)) v → page_at v.contents 0 ≡ load_page s → IsLoadedRack s v
+    → InEveryImage (λ c. IsOpenGate (page_at c 1)) v → InEveryImage (λ c. IsClosedGate (page_at c 3)) v → page_at v.contents 0 ≡ load_page s
+    → IsLoadedRack s v
 loaded_start s v stands sizes sound opened closed body =
     let some = never_settled (λ p. (t : Shape) × (p ≡ load_page t)) v (dims_of s) 0 open_gate (omega arith) length-open_gate stands sizes gate_no_body
     (λ dims image is i. (let l = (sound.consistent dims is dims image is i).loaded (opened dims image is i) in (l.shape, l.body))) in
@@ -128,7 +146,8 @@ loaded_start s v stands sizes sound opened closed body =
       load_gate = open_settled v (dims_of s) 1 (omega arith) stands sizes opened;
       load_body = record { clean = some.clean; holds = body };
       job_gate = closed_settled v (dims_of s) 3 (omega arith) stands sizes closed;
-      input = sound.input (dims_of s) v.contents stands (image_self v (dims_of s) sizes) (opened (dims_of s) v.contents stands (image_self v (dims_of s) sizes));
+      input = sound.input (dims_of s) v.contents stands (image_self v (dims_of s) sizes)
+          (opened (dims_of s) v.contents stands (image_self v (dims_of s) sizes));
     }
 
 -- no page of a job but its gate is one of these
@@ -147,18 +166,24 @@ input_no_job_page passes parts dims (block_unit disk place) input (inr (inr is))
 input_no_job_page passes parts dims (page_unit page) input is = input
 
 -- while the job's pages are written
-pub loaded_within : (passes : ℕ) (parts : Type 0) (s : Shape) (old new : RackView) → DirtiesOnly (IsJobPage passes parts) old new → IsLoadedRack s old → IsLoadedRack s new
+pub loaded_within : (passes : ℕ) (parts : Type 0) (s : Shape) (old new : RackView) → DirtiesOnly (IsJobPage passes parts) old new
+    → IsLoadedRack s old → IsLoadedRack s new
 loaded_within passes parts s old new w r = record {
   stands = w.stands ∙ r.stands;
-  load_gate = settled_within IsOpenGate (IsJobPage passes parts) 1 old new w (job_page_apart passes 1 parts (omega arith) (λ e. omega (arith, e))) r.load_gate;
-  load_body = settled_within (λ p. p ≡ load_page s) (IsJobPage passes parts) 0 old new w (job_page_apart passes 0 parts (omega arith) (λ e. omega (arith, e))) r.load_body;
-  job_gate = settled_within IsClosedGate (IsJobPage passes parts) 3 old new w (job_page_apart passes 3 parts (omega arith) (λ e. omega (arith, e))) r.job_gate;
+  load_gate = settled_within IsOpenGate (IsJobPage passes parts) 1 old new w
+      (job_page_apart passes 1 parts (omega arith) (λ e. omega (arith, e))) r.load_gate;
+  load_body = settled_within (λ p. p ≡ load_page s) (IsJobPage passes parts) 0 old new w
+      (job_page_apart passes 0 parts (omega arith) (λ e. omega (arith, e))) r.load_body;
+  job_gate = settled_within IsClosedGate (IsJobPage passes parts) 3 old new w
+      (job_page_apart passes 3 parts (omega arith) (λ e. omega (arith, e))) r.job_gate;
   input = λ u is. w.dirty u (input_no_job_page passes parts (dims_of s) u is) (r.input u is);
 }
 
 -- the job gate alone
-pub job_gate_within : (passes : ℕ) (parts : Type 0) (old new : RackView) → DirtiesOnly (IsJobPage passes parts) old new → Settled IsClosedGate 3 old → Settled IsClosedGate 3 new
-job_gate_within passes parts old new w r = settled_within IsClosedGate (IsJobPage passes parts) 3 old new w (job_page_apart passes 3 parts (omega arith) (λ e. omega (arith, e))) r
+pub job_gate_within : (passes : ℕ) (parts : Type 0) (old new : RackView) → DirtiesOnly (IsJobPage passes parts) old new → Settled IsClosedGate 3 old
+    → Settled IsClosedGate 3 new
+job_gate_within passes parts old new w r = settled_within IsClosedGate (IsJobPage passes parts) 3 old new w
+    (job_page_apart passes 3 parts (omega arith) (λ e. omega (arith, e))) r
 
 -- such a rack is sound
 pub loaded_sound : (s : Shape) (v : RackView) → IsLoadedRack s v → IsSound v
@@ -174,7 +199,8 @@ started s job forms every a b does j d = record {
   every = every;
   body = subst (λ (p : List ℕ). IsJobBody s p job (length forms) every) (sym (d.pages 2 (λ e. omega (arith, e)))) j.body;
   of_shape = λ k d h. (j.bodies k (get_or forms k d) (slice_get-get_or forms k d h)).of_shape;
-  bodies = λ k pass there. subst (λ (p : List ℕ). IsPassBody s k p pass) (sym (d.pages (pass_body k) (λ e. omega (arith, e)))) (j.bodies k pass there);
+  bodies = λ k pass there. subst (λ (p : List ℕ). IsPassBody s k p pass) (sym (d.pages (pass_body k) (λ e. omega (arith, e))))
+      (j.bodies k pass there);
   means = does (input_of b s);
   done = 0;
   gates = record {
@@ -187,7 +213,8 @@ started s job forms every a b does j d = record {
 }
 
 -- while the gate of a job is written whose pages are on the disks
-pub sound_started : (s : Shape) (job : Job) (forms : List PassForm) (every : ℕ) (old new : RackView) → HasSizes (dims_of s) old.contents → IsClean old → IsLoadedRack s old
+pub sound_started : (s : Shape) (job : Job) (forms : List PassForm) (every : ℕ) (old new : RackView) → HasSizes (dims_of s) old.contents
+    → IsClean old → IsLoadedRack s old
     → DoJob forms s.n job → JobIsWritten s job forms every old.contents → DirtiesOnly (IsPage 3) old new → IsSound new
 sound_started s job forms every old new sizes clean r does j w =
     sound_page 3 old new (dims_of s) (omega arith) (λ e. omega (arith, e)) r.stands sizes (loaded_sound s old r) w (λ before image was i d c.
@@ -196,7 +223,8 @@ sound_started s job forms every old new sizes clean r does j w =
     record {
       loaded = λ gate. record { shape = s; body = zero; dims_are = refl };
       after_load = λ gate. d'.pages 1 (λ e. omega (arith, e)) ∙ r.load_gate.holds;
-      job = λ gate t loaded. subst (λ (u : Shape). JobStands u image) (load_unique s t (page_at image 0) zero loaded) (started s job forms every old.contents image does j d');
+      job = λ gate t loaded. subst (λ (u : Shape). JobStands u image) (load_unique s t (page_at image 0) zero loaded)
+          (started s job forms every old.contents image does j d');
     })
 
 -- the frames of a start

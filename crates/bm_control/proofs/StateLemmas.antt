@@ -1,5 +1,6 @@
 -- What the control file tells, page by page.
-use Rattle.std.proofs.Common.{Ok, Err, ◌≡◌, ◌⊎◌, inl, inr, ⊎_elim, ℕ, ◌+◌, ◌<◌, ◌≤◌, List, Option, Some, None, IfSome, Result, refl, sym, ◌∙◌, ap, subst, arith}
+use Rattle.std.proofs.Common.{Ok, Err, ◌≡◌, ◌⊎◌, inl, inr, ⊎_elim, ℕ, ◌+◌, ◌<◌, ◌≤◌, List, Option, Some, None, IfSome, Result, refl, sym, ◌∙◌, ap}
+use Rattle.std.proofs.Common.{subst, arith}
 use Rattle.std.proofs.lemmas.Bool.{cases_lt, cases_eq}
 use Rattle.bm_base.specs.declared.shape.Shape.{Shape}
 use Rattle.bm_base.specs.Contents.{Contents, page_at}
@@ -12,7 +13,8 @@ use Rattle.bm_control.specs.declared.state.ControlError.TheVariants.{Failed, Bad
 use Rattle.bm_control.specs.Bodies.{loads_of, IsJobBody, IsPartBody}
 use Rattle.bm_control.specs.Consistent.{pass_gate, slot_body, slot_gate, GatesAre}
 use Rattle.bm_control.specs.Progress.{Counts}
-use Rattle.bm_control.specs.State.{HasPassBody, PassesStand, PassRead, PassAnswer, PassesAnswer, SlotRead, SlotAnswer, SlotsAnswer, SlotsRead, IsGoodSlot, CountedOf, CountFits, PartFits, IsWorking, IsJobOpen, JobAnswer, StateAnswer}
+use Rattle.bm_control.specs.State.{HasPassBody, PassesStand, PassRead, PassAnswer, PassesAnswer, SlotRead, SlotAnswer, SlotsAnswer, SlotsRead}
+use Rattle.bm_control.specs.State.{IsGoodSlot, CountedOf, CountFits, PartFits, IsWorking, IsJobOpen, JobAnswer, ProgressAnswer, StateAnswer}
 use Rattle.std.proofs.Math.Path.{subst₂}
 use Rattle.bm_control.proofs.BodyLemmas.{part_numbers}
 use Rattle.bm_control.proofs.EqualLemmas.{some_injective, none_some}
@@ -58,12 +60,14 @@ passes_more s v k done next before read = record {
     }
 
 -- a pass page that is wrong is the first of them
-pub passes_bad : (s : Shape) (v : Contents) (passes k done : ℕ) (e : ControlError) → k < passes → PassesStand s v k done → PassAnswer s v k done (Err e) → PassesAnswer s v passes (Err e)
+pub passes_bad : (s : Shape) (v : Contents) (passes k done : ℕ) (e : ControlError) → k < passes → PassesStand s v k done
+    → PassAnswer s v k done (Err e) → PassesAnswer s v passes (Err e)
 passes_bad s v passes k done Failed below before answer = tt
 passes_bad s v passes k done (BadPage page) below before answer = record { k = k; done = done; below = below; before = before; bad = answer }
 
 -- the first slot is wrong
-pub slots_first_bad : (s : Shape) (v : Contents) (passes done every : ℕ) (e : ControlError) → every < loads_of s → SlotAnswer s v passes done 0 (Err e) → SlotsAnswer s v passes done every (Err e)
+pub slots_first_bad : (s : Shape) (v : Contents) (passes done every : ℕ) (e : ControlError) → every < loads_of s
+    → SlotAnswer s v passes done 0 (Err e) → SlotsAnswer s v passes done every (Err e)
 slots_first_bad s v passes done every Failed less answer = tt
 slots_first_bad s v passes done every (BadPage page) less answer = (less, inl (answer.1, answer.0))
 
@@ -92,7 +96,8 @@ counted_none s v passes done every same = record {
 }
 
 -- both slots together
-pub counted_both : (s : Shape) (v : Contents) (passes done every part slot : ℕ) (one two : Option ℕ) → every < loads_of s → SlotRead s v passes done 0 one → SlotRead s v passes done 1 two
+pub counted_both : (s : Shape) (v : Contents) (passes done every part slot : ℕ) (one two : Option ℕ) → every < loads_of s
+    → SlotRead s v passes done 0 one → SlotRead s v passes done 1 two
     → CountedOf one two part slot → SlotsRead s v passes done every part slot
 counted_both s v passes done every part slot one two less first second of = record {
   good = λ _ other h. elim (two_cases other h) [
@@ -133,7 +138,8 @@ counted_both s v passes done every part slot one two less first second of = reco
     ]
 
 -- the ranges of what is counted
-pub counted_fits : (s : Shape) (passes done every part slot : ℕ) (one two : Option ℕ) → every < loads_of s → IfSome one (λ loads. CountFits s passes done loads)
+pub counted_fits : (s : Shape) (passes done every part slot : ℕ) (one two : Option ℕ) → every < loads_of s
+    → IfSome one (λ loads. CountFits s passes done loads)
     → IfSome two (λ loads. CountFits s passes done loads) → CountedOf one two part slot → PartFits s passes done every part slot
 counted_fits s passes done every part slot one two less first second of = record {
   range = of.range;
@@ -160,11 +166,13 @@ part_unique s page p l p' l' one two =
     (sym x.pass_is ∙ y.pass_is, sym x.loads_are ∙ y.loads_are)
 
 -- an open slot whose body names a pass that may be under way
-slot_good : (s : Shape) (v : Contents) (passes done slot pass loads : ℕ) → IsPartBody s (page_at v (slot_body slot)) pass loads → pass ≤ passes → pass ≤ done + 1
+slot_good : (s : Shape) (v : Contents) (passes done slot pass loads : ℕ) → IsPartBody s (page_at v (slot_body slot)) pass loads → pass ≤ passes
+    → pass ≤ done + 1
     → IsGoodSlot s v passes done slot
 slot_good s v passes done slot pass loads body known soon = λ _. record { pass = pass; loads = loads; body = body; known = known; soon = soon }
 
-pub slot_old : (s : Shape) (v : Contents) (passes done slot pass loads : ℕ) → IsPartBody s (page_at v (slot_body slot)) pass loads → pass ≤ passes → pass ≤ done
+pub slot_old : (s : Shape) (v : Contents) (passes done slot pass loads : ℕ) → IsPartBody s (page_at v (slot_body slot)) pass loads → pass ≤ passes
+    → pass ≤ done
     → SlotRead s v passes done slot None
 slot_old s v passes done slot pass loads body known old = record {
   good = slot_good s v passes done slot pass loads body known (omega arith);
@@ -172,7 +180,8 @@ slot_old s v passes done slot pass loads body known old = record {
   only = λ l c. (let e = (part_unique s (page_at v (slot_body slot)) pass loads (done + 1) l body c.body).0 in absurd (omega (arith, e, old)));
 }
 
-pub slot_now : (s : Shape) (v : Contents) (passes done slot pass loads : ℕ) → IsOpenGate (page_at v (slot_gate slot)) → IsPartBody s (page_at v (slot_body slot)) pass loads
+pub slot_now : (s : Shape) (v : Contents) (passes done slot pass loads : ℕ) → IsOpenGate (page_at v (slot_gate slot))
+    → IsPartBody s (page_at v (slot_body slot)) pass loads
     → pass ≤ passes → pass ≡ done + 1 → SlotRead s v passes done slot (Some loads)
 slot_now s v passes done slot pass loads gate body known now = record {
   good = slot_good s v passes done slot pass loads body known (omega (arith, now));
@@ -184,16 +193,21 @@ slot_now s v passes done slot pass loads gate body known now = record {
 }
 
 -- a page is wrong behind the job body
-pub job_passes_bad : (s : Shape) (v : Contents) (job : Job) (passes every : ℕ) (e : ControlError) → IsJobBody s (page_at v 2) job passes every
-    → PassesAnswer s v passes (Err e) → JobAnswer s v (Err e)
-job_passes_bad s v job passes every Failed body answer = tt
-job_passes_bad s v job passes every (BadPage page) body answer = inr (record { job = job; passes = passes; every = every; body = body; bad = inl answer })
+pub progress_passes_bad : (s : Shape) (v : Contents) (passes every : ℕ) (e : ControlError) → PassesAnswer s v passes (Err e)
+    → ProgressAnswer s v passes every (Err e)
+progress_passes_bad s v passes every Failed answer = tt
+progress_passes_bad s v passes every (BadPage page) answer = inl answer
 
-pub job_slots_bad : (s : Shape) (v : Contents) (job : Job) (passes every done : ℕ) (e : ControlError) → IsJobBody s (page_at v 2) job passes every → PassesStand s v passes done
-    → SlotsAnswer s v passes done every (Err e) → JobAnswer s v (Err e)
-job_slots_bad s v job passes every done Failed body stand answer = tt
-job_slots_bad s v job passes every done (BadPage page) body stand answer =
-    inr (record { job = job; passes = passes; every = every; body = body; bad = inr (answer.0, (done, stand, answer.1)) })
+pub progress_slots_bad : (s : Shape) (v : Contents) (passes every done : ℕ) (e : ControlError) → PassesStand s v passes done
+    → SlotsAnswer s v passes done every (Err e) → ProgressAnswer s v passes every (Err e)
+progress_slots_bad s v passes every done Failed stand answer = tt
+progress_slots_bad s v passes every done (BadPage page) stand answer = inr (answer.0, (done, stand, answer.1))
+
+pub job_progress_bad : (s : Shape) (v : Contents) (job : Job) (passes every : ℕ) (e : ControlError) → IsJobBody s (page_at v 2) job passes every
+    → ProgressAnswer s v passes every (Err e) → JobAnswer s v (Err e)
+job_progress_bad s v job passes every Failed body answer = tt
+job_progress_bad s v job passes every (BadPage page) body answer = inr
+    (record { job = job; passes = passes; every = every; body = body; bad = answer })
 
 -- the state, from the pages of an open job
 pub state_of_job : (s : Shape) (v : Contents) (r : Result SlateState ControlError) → IsJobOpen s v → JobAnswer s v r → StateAnswer v r

@@ -1,5 +1,6 @@
 -- The body pages of the control file: a list of 512 bytes for each value. Numbers are little-endian.
-use Rattle.std.specs.Prelude.{◌≡◌, ℕ, zero, suc, ◌+◌, ◌-◌, ◌^◌, ◌<◌, ◌≤◌, ◌==◌, if◌then◌else◌, List, [], ◌∷◌, ◌++◌, length, replicate, slice_index, codes}
+use Rattle.std.specs.Prelude.{◌≡◌, ℕ, zero, suc, ◌+◌, ◌-◌, ◌^◌, ◌<◌, ◌≤◌, ◌==◌, if◌then◌else◌, List, [], ◌∷◌, ◌++◌, length, replicate, slice_index}
+use Rattle.std.specs.Prelude.{codes}
 use Rattle.byteorder.specs.Endian.{little_bytes, little_number}
 use Rattle.bm_base.specs.declared.shape.Shape.{Shape}
 use Rattle.bm_gf2.specs.declared.affine.Affine.{Affine}
@@ -109,8 +110,9 @@ pub record IsJobBody (s : Shape) (page : List ℕ) (job : Job) (passes every : �
   pub fits : JobBodyFits s job passes every
   pub page_is : page ≡ job_page s job passes every
 
--- the page decodes to this pass: it is its body
+-- The page decodes to this pass as pass k + 1: it is its body. No pass has a number above 256.
 pub record IsPassBody (s : Shape) (k : ℕ) (page : List ℕ) (pass : PassForm) : Type 0 where
+  pub number : k < 256
   pub columns : HasColumns pass.map.map
   pub of_shape : IsOfShape s pass
   pub page_is : page ≡ pass_page s pass k

@@ -66,14 +66,19 @@ pub record IsWorking (s : Shape) (v : Contents) (job : Job) (passes done every p
   pub slots : every < loads_of s → (other : ℕ) → other < 2 → IsGoodSlot s v passes done other
   pub counted : IsCounted s v every done part slot
 
+-- page `page` is the first that is wrong of the passes' pages and the slots'
+abbrev pub IsBadProgress : Shape → Contents → ℕ → ℕ → ℕ → Type 0
+IsBadProgress s v passes every page =
+    IsBadPassPage s v passes page
+    ⊎ ((every < loads_of s) × ((done : ℕ) × PassesStand s v passes done × IsBadSlotPage s v passes done page))
+
 -- page `page` is wrong behind a job body that decodes
 pub record IsBadBehind (s : Shape) (v : Contents) (page : ℕ) : Type 0 where
   pub job : Job
   pub passes : ℕ
   pub every : ℕ
   pub body : IsJobBody s (page_at v 2) job passes every
-  pub bad : IsBadPassPage s v passes page
-      ⊎ ((every < loads_of s) × ((done : ℕ) × PassesStand s v passes done × IsBadSlotPage s v passes done page))
+  pub bad : IsBadProgress s v passes every page
 
 -- page `page` is the first that is wrong of an open job
 abbrev pub IsBadJobPage : Shape → Contents → ℕ → Type 0
@@ -145,6 +150,12 @@ abbrev pub SlotsAnswer : Shape → Contents → ℕ → ℕ → ℕ → Result (
 SlotsAnswer s v passes done every (Ok (part, slot)) = SlotsRead s v passes done every part slot
 SlotsAnswer s v passes done every (Err Failed) = Unit {0}
 SlotsAnswer s v passes done every (Err (BadPage page)) = (every < loads_of s) × IsBadSlotPage s v passes done page
+
+-- the answer of the pages of the passes and the slots: the passes done, the loads counted of the next one, and the slot that counts them
+abbrev pub ProgressAnswer : Shape → Contents → ℕ → ℕ → Result (ℕ × ℕ × ℕ) ControlError → Type 0
+ProgressAnswer s v passes every (Ok (done, part, slot)) = PassesStand s v passes done × SlotsRead s v passes done every part slot
+ProgressAnswer s v passes every (Err Failed) = Unit {0}
+ProgressAnswer s v passes every (Err (BadPage page)) = IsBadProgress s v passes every page
 
 -- which of two slots is counted, by what was found of them: the one with more loads, and the first where both have one number
 pub record CountedOf (first second : Option ℕ) (part slot : ℕ) : Type 0 where

@@ -19,7 +19,8 @@ pub fn write_page_durably<R: Rack>(
     requires page { page < 516 }
     ensures call { RackCall (IsPage page) (IsErr result) (R.view rack.old) (R.view rack.new) }
     ensures clean { OnOk result (IsClean (R.view rack.new)) }
-    ensures taken { IsTrue R.tells_contents → OnOk result (page_at (R.view rack.new).contents page ≡ bytes.now) }
+    ensures taken { IsTrue R.tells_contents
+        → OnOk result (page_at (R.view rack.new).contents page ≡ bytes.now) }
     ensures counts { MakesPageCalls (IsOk result) 1 1 (R.view rack.old) (R.view rack.new) }
 {
     rack.write_page(page, bytes)?;

@@ -1,8 +1,10 @@
 //! The job body: what is to be done, in how many passes, and how often progress is made durable.
-ghost use Rattle.std.specs.Prelude.{◌≡◌, ◌↔◌, ◌≤◌, ◌++◌, ℕ, length, codes, slice_index, Some, IsTrue, IfSome};
+ghost use Rattle.std.specs.Prelude.{◌≡◌, ◌↔◌, ◌≤◌, ◌++◌, ℕ, length, codes, slice_index, Some};
+ghost use Rattle.std.specs.Prelude.{IsTrue, IfSome};
 ghost use Rattle.bm_forms.specs.declared.job.Job.{Job};
 ghost use Rattle.bm_forms.specs.Job.{JobFits};
-ghost use Rattle.bm_control.specs.Bodies.{body_head, kind_of, job_map, job_version, named_loads, job_page, JobBodyFits, IsJobBody, JobHasColumns};
+ghost use Rattle.bm_control.specs.Bodies.{body_head, kind_of, job_map, job_version, named_loads};
+ghost use Rattle.bm_control.specs.Bodies.{job_page, JobBodyFits, IsJobBody, JobHasColumns};
 
 use crate::map_body::{end_body, put_map, read_map, start_body};
 use crate::page_reader::{same_page, u16_at, u64_at};
@@ -35,7 +37,8 @@ const PERMUTE: u8 = 1;
 /// The kind of the transform.
 const WALSH: u8 = 2;
 
-/// The job body's page. `every` is the number of loads of a pass after which progress is made durable, N/M at most.
+/// The job body's page. `every` is the number of loads of a pass after which progress is made
+/// durable, N/M at most.
 pub fn encode_job(shape: &Shape, job: &Job, passes: u16, every: u64) -> [u8; PAGE_BYTES]
     requires { JobBodyFits shape.now job.now passes every }
     ensures page { result ≡ job_page shape.now job.now passes every }
@@ -66,7 +69,8 @@ fn named_for(shape: &Shape, every: u64) -> u64
 // The head and the map.
 fn start_job_body(shape: &Shape, job: &Job, version: u16, passes: u16) -> PageWriter
     ensures bytes { result
-        ≡ body_head (codes "BMMCTASK") version (kind_of job.now) shape.now.n passes ++ job_map job.now }
+        ≡ body_head (codes "BMMCTASK") version (kind_of job.now) shape.now.n passes
+        ++ job_map job.now }
     ensures length { length result ≤ 504 }
     ensures columns { JobHasColumns job.now }
 {
@@ -80,7 +84,8 @@ fn start_job_body(shape: &Shape, job: &Job, version: u16, passes: u16) -> PageWr
     }
 }
 
-/// The job, number of passes and number of loads whose body the page is, or nothing where it is no job's body for this shape.
+/// The job, number of passes and number of loads whose body the page is, or nothing where it is no
+/// job's body for this shape.
 pub fn decode_job(shape: &Shape, page: &[u8; PAGE_BYTES]) -> Option<(Job, u16, u64)>
     ensures { (job : Job) (passes every : ℕ)
         → (result ≡ Some (job, passes, every)) ↔ IsJobBody shape.now page.now job passes every }

@@ -1,8 +1,8 @@
 //! Opening a job.
-ghost use Rattle.std.specs.Prelude.{◌≡◌, ◌⊎◌, ◌+◌, ◌*◌, ◌<◌, ◌≤◌, ℕ, IsTrue, IsOk, IsErr, OnOk, Some, length};
+ghost use Rattle.std.specs.Prelude.{◌≡◌, ◌⊎◌, ◌+◌, ◌*◌, ◌<◌, ◌≤◌, ℕ, IsTrue, IsOk, IsErr, OnOk};
+ghost use Rattle.std.specs.Prelude.{length};
 ghost use Rattle.bm_base.specs.Contents.{page_at};
 ghost use Rattle.bm_base.specs.Gate.{IsOpenGate, IsClosedGate};
-ghost use Rattle.bm_base.specs.Shape.{dims_of};
 ghost use Rattle.bm_rack.specs.RackView.{IsAttached, IsClean};
 ghost use Rattle.bm_rack.specs.Image.{InEveryImage};
 ghost use Rattle.bm_rack.specs.Frames.{RackCall};
@@ -11,7 +11,8 @@ ghost use Rattle.bm_forms.specs.PassForm.{IsOfShape};
 ghost use Rattle.bm_forms.specs.Plan.{StandsFor};
 ghost use Rattle.bm_control.specs.Bodies.{loads_of, load_page, job_page, JobBodyFits, IsPassBody};
 ghost use Rattle.bm_control.specs.Moments.{JobIsWritten, PassesAreWritten};
-ghost use Rattle.bm_control.specs.PageCalls.{MakesPageCalls, IsPassPage, IsSlotGate, IsJobPage, IsStartPage};
+ghost use Rattle.bm_control.specs.PageCalls.{MakesPageCalls, IsPassPage, IsSlotGate, IsJobPage};
+ghost use Rattle.bm_control.specs.PageCalls.{IsStartPage};
 ghost use Rattle.bm_control.specs.Sound.{IsSound};
 
 use crate::durable::write_page_durably;
@@ -22,12 +23,12 @@ use bm_base::{Failed, PAGE_BYTES, Shape};
 use bm_forms::{Job, PassForm, Plan};
 use bm_rack::Rack;
 
-/// Opens a job on a rack whose load gate is open and whose job gate is closed in every image, for the
-/// records that are loaded.
+/// Opens a job on a rack whose load gate is open and whose job gate is closed in every image, for
+/// the records that are loaded.
 ///
-/// The plan stands for the job at the shape, with 1 to Q passes. `every` is the number of loads of a
-/// pass after which progress is made durable, 1 to N/M. All pages of the job are made durable before
-/// its gate is written. A rack that is sound stays sound at each exit.
+/// The plan is one of the shape, with 1 to Q passes. `every` is the number of loads of a pass after
+/// which progress is made durable, 1 to N/M. All pages of the job are made durable before its gate
+/// is written. A rack that is sound stays sound at each exit, where the plan stands for the job.
 pub fn start_job<R: Rack>(
     rack: &mut R,
     shape: &Shape,
@@ -35,10 +36,11 @@ pub fn start_job<R: Rack>(
     plan: &Plan,
     every: u64,
 ) -> Result<(), Failed>
-    requires attached { (R.view rack.old).attached ≡ Some (dims_of shape.now) }
-    requires stands { StandsFor plan.now shape.now job.now }
+    requires ready { IsAttached (R.view rack.old).attached }
+    requires shape { plan.now.shape ≡ shape.now }
     requires fits { JobBodyFits shape.now job.now (length plan.now.forms) every }
     ensures sound { IsTrue R.tells_stands → IsTrue R.tells_contents
+        → StandsFor plan.now shape.now job.now
         → IsSound (R.view rack.old)
         → InEveryImage (λ v. IsOpenGate (page_at v 1)) (R.view rack.old)
         → InEveryImage (λ v. IsClosedGate (page_at v 3)) (R.view rack.old)
@@ -53,13 +55,16 @@ pub fn start_job<R: Rack>(
     ensures opened { IsTrue R.tells_contents
         → OnOk result (IsOpenGate (page_at (R.view rack.new).contents 3)) }
     ensures written { IsTrue R.tells_contents
-        → OnOk result (JobIsWritten shape.now job.now plan.now.forms every (R.view rack.new).contents) }
-    ensures call { RackCall (IsStartPage (length plan.now.forms) (every < loads_of shape.now)) (IsErr result)
-        (R.view rack.old) (R.view rack.new) }
+        → OnOk result
+        (JobIsWritten shape.now job.now plan.now.forms every (R.view rack.new).contents) }
+    ensures call { RackCall (IsStartPage (length plan.now.forms) (every < loads_of shape.now))
+        (IsErr result) (R.view rack.old) (R.view rack.new) }
     ensures whole_passes { every ≡ loads_of shape.now
-        → MakesPageCalls (IsOk result) (2 + 2 * length plan.now.forms) 2 (R.view rack.old) (R.view rack.new) }
+        → MakesPageCalls (IsOk result) (2 + 2 * length plan.now.forms) 2
+        (R.view rack.old) (R.view rack.new) }
     ensures parts { every < loads_of shape.now
-        → MakesPageCalls (IsOk result) (4 + 2 * length plan.now.forms) 2 (R.view rack.old) (R.view rack.new) }
+        → MakesPageCalls (IsOk result) (4 + 2 * length plan.now.forms) 2
+        (R.view rack.old) (R.view rack.new) }
 {
     write_job(rack, shape, job, plan, every)?;
     rack.sync()?;
@@ -79,12 +84,14 @@ fn write_job<R: Rack>(
     requires fits { JobBodyFits shape.now job.now (length plan.now.forms) every }
     ensures written { IsTrue R.tells_contents → IsOk result
         → JobIsWritten shape.now job.now plan.now.forms every (R.view rack.new).contents }
-    ensures call { RackCall (IsJobPage (length plan.now.forms) (every < loads_of shape.now)) (IsErr result)
-        (R.view rack.old) (R.view rack.new) }
+    ensures call { RackCall (IsJobPage (length plan.now.forms) (every < loads_of shape.now))
+        (IsErr result) (R.view rack.old) (R.view rack.new) }
     ensures whole_passes { every ≡ loads_of shape.now
-        → MakesPageCalls (IsOk result) (1 + 2 * length plan.now.forms) 0 (R.view rack.old) (R.view rack.new) }
+        → MakesPageCalls (IsOk result) (1 + 2 * length plan.now.forms) 0
+        (R.view rack.old) (R.view rack.new) }
     ensures parts { every < loads_of shape.now
-        → MakesPageCalls (IsOk result) (3 + 2 * length plan.now.forms) 0 (R.view rack.old) (R.view rack.new) }
+        → MakesPageCalls (IsOk result) (3 + 2 * length plan.now.forms) 0
+        (R.view rack.old) (R.view rack.new) }
 {
     let body = encode_job(shape, job, plan.len(), every);
     rack.write_page(2, &body)?;
@@ -101,9 +108,12 @@ fn write_passes<R: Rack>(rack: &mut R, shape: &Shape, plan: &Plan) -> Result<(),
     requires shape { plan.now.shape ≡ shape.now }
     requires few { length plan.now.forms ≤ 254 }
     ensures written { IsTrue R.tells_contents → IsOk result
-        → PassesAreWritten shape.now plan.now.forms (length plan.now.forms) (R.view rack.new).contents }
-    ensures call { RackCall (IsPassPage (length plan.now.forms)) (IsErr result) (R.view rack.old) (R.view rack.new) }
-    ensures counts { MakesPageCalls (IsOk result) (2 * length plan.now.forms) 0 (R.view rack.old) (R.view rack.new) }
+        → PassesAreWritten shape.now plan.now.forms (length plan.now.forms)
+        (R.view rack.new).contents }
+    ensures call { RackCall (IsPassPage (length plan.now.forms)) (IsErr result)
+        (R.view rack.old) (R.view rack.new) }
+    ensures counts { MakesPageCalls (IsOk result) (2 * length plan.now.forms) 0
+        (R.view rack.old) (R.view rack.new) }
 {
     for k in 0..plan.len() {
         write_pass(rack, shape, plan.at(k), k)?;

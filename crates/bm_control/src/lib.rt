@@ -1,4 +1,5 @@
-//! The control file on a rack's slate: its pages, each with one spelling, and writes after each of which a stop is harmless.
+//! The control file on a rack's slate: its pages, each with one spelling, and writes after each of
+//! which a stop is harmless.
 #![tactic(auto)]
 
 mod durable;

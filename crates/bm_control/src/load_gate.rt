@@ -25,9 +25,9 @@ const LOAD_GATE: u16 = 1;
 
 /// Closes the load gate of a rack on which no job is open in any image.
 ///
-/// A rack that is sound, with nothing dirty and the load gate open, stays sound at each exit. A gate
-/// that is closed already must not be closed again: a page that is written has images of any bytes,
-/// an open gate among them.
+/// A rack that is sound, with nothing dirty and the load gate open, stays sound at each exit. A
+/// gate that is closed already must not be closed again: a page that is written has images of any
+/// bytes, an open gate among them.
 pub fn close_load<R: Rack>(rack: &mut R) -> Result<(), Failed>
     requires { IsAttached (R.view rack.old).attached }
     ensures sound { IsTrue R.tells_stands → IsTrue R.tells_contents
@@ -44,12 +44,15 @@ pub fn close_load<R: Rack>(rack: &mut R) -> Result<(), Failed>
     write_page_durably(rack, LOAD_GATE, &[0; PAGE_BYTES])
 }
 
-/// Opens the load gate of a rack on which both gates are closed in every image, for records of this shape.
+/// Opens the load gate of a rack on which both gates are closed in every image, for records of this
+/// shape.
 ///
-/// The body is made durable before its gate is written. The rack is sound at each exit.
+/// The body is made durable before its gate is written. A rack of the shape's sizes is sound at
+/// each exit.
 pub fn open_load<R: Rack>(rack: &mut R, shape: &Shape) -> Result<(), Failed>
-    requires { (R.view rack.old).attached ≡ Some (dims_of shape.now) }
+    requires { IsAttached (R.view rack.old).attached }
     ensures sound { IsTrue R.tells_stands → IsTrue R.tells_contents
+        → (R.view rack.old).attached ≡ Some (dims_of shape.now)
         → InEveryImage (λ v. IsClosedGate (page_at v 1)) (R.view rack.old)
         → InEveryImage (λ v. IsClosedGate (page_at v 3)) (R.view rack.old)
         → IsSound (R.view rack.new) }

@@ -1,7 +1,9 @@
 //! Bodies with a map: their first bytes, the map, and their last number.
-ghost use Rattle.std.specs.Prelude.{◌≡◌, ℕ, ◌+◌, ◌*◌, ◌^◌, ◌<◌, ◌≤◌, List, ◌++◌, length, drop, slice_index, Some, IfSome, IfNone};
+ghost use Rattle.std.specs.Prelude.{◌≡◌, ℕ, ◌+◌, ◌*◌, ◌^◌, ◌<◌, ◌≤◌, List, ◌++◌, length, drop};
+ghost use Rattle.std.specs.Prelude.{slice_index, Some, IfSome, IfNone};
 ghost use Rattle.bm_gf2.specs.declared.affine.Affine.{Affine};
-ghost use Rattle.bm_control.specs.Bodies.{padded, u64_bytes, u64_in, body_head, column_bytes, map_bytes, map_page, HasColumns};
+ghost use Rattle.bm_control.specs.Bodies.{padded, u64_bytes, u64_in, body_head, column_bytes};
+ghost use Rattle.bm_control.specs.Bodies.{map_bytes, map_page, HasColumns};
 
 use crate::page_reader::u64_at;
 use crate::page_writer::PageWriter;
@@ -96,7 +98,8 @@ pub fn read_map(page: &[u8; PAGE_BYTES], n: u8) -> Option<Affine>
     requires few { n ≤ 52 }
     ensures size { IfSome result (λ f. f.a.n ≡ n) }
     ensures columns { IfSome result (λ f. HasColumns f) }
-    ensures read { (head : List ℕ) (f : Affine) (last : ℕ) → length head ≡ 16 → HasColumns f → f.a.n ≡ n
+    ensures read { (head : List ℕ) (f : Affine) (last : ℕ) → length head ≡ 16 → HasColumns f
+        → f.a.n ≡ n
         → page.now ≡ map_page head (map_bytes f) last → result ≡ Some f }
 {
     let c = u64_at(page, CONSTANT_AT);

@@ -12,7 +12,8 @@ const VERSION: u16 = 2;
 /// The most passes that have parts.
 const MOST_PASSES: u16 = 254;
 
-/// The part body of so many loads of this pass, counted from 1. The pass is at most 254, and the loads are below N/M.
+/// The part body of so many loads of this pass, counted from 1. The pass is at most 254, and the
+/// loads are below N/M.
 pub fn encode_part(shape: &Shape, pass: u16, loads: u64) -> [u8; PAGE_BYTES]
     requires { PartBodyFits shape.now pass loads }
     ensures { result ≡ part_page pass loads }
@@ -26,9 +27,11 @@ pub fn encode_part(shape: &Shape, pass: u16, loads: u64) -> [u8; PAGE_BYTES]
     page.finish()
 }
 
-/// The pass and number of loads whose part body the page is, or nothing where it is no part body for this shape.
+/// The pass and number of loads whose part body the page is, or nothing where it is no part body
+/// for this shape.
 pub fn decode_part(shape: &Shape, page: &[u8; PAGE_BYTES]) -> Option<(u16, u64)>
-    ensures { (pass loads : ℕ) → (result ≡ Some (pass, loads)) ↔ IsPartBody shape.now page.now pass loads }
+    ensures { (pass loads : ℕ)
+        → (result ≡ Some (pass, loads)) ↔ IsPartBody shape.now page.now pass loads }
 {
     let pass = u16_at(page, 10);
     let loads = u64_at(page, 16);

@@ -1,5 +1,6 @@
 //! Pass bodies: what each pass does.
-ghost use Rattle.std.specs.Prelude.{◌≡◌, ◌<◌, ◌≤◌, Some, IfSome, MatchOption, IsSomeAnd, IsTrue, ◌↔◌, ◌≢◌, ℕ};
+ghost use Rattle.std.specs.Prelude.{◌≡◌, ◌<◌, ◌≤◌, Some, IfSome, MatchOption, IsSomeAnd, IsTrue};
+ghost use Rattle.std.specs.Prelude.{◌↔◌, ◌≢◌, ℕ};
 ghost use Rattle.bm_forms.specs.declared.pass_form.PassForm.{PassForm};
 ghost use Rattle.bm_forms.specs.PassForm.{IsOfShape};
 ghost use Rattle.bm_control.specs.Bodies.{pass_page, IsPassBody, HasColumns};
@@ -11,6 +12,9 @@ use bm_forms::{MldForm, PassForm};
 
 /// The pass body's version.
 const VERSION: u16 = 1;
+
+/// The most passes that a body can number.
+const MOST_PASSES: u16 = 256;
 
 /// The body of pass k + 1, for k below 256.
 pub fn encode_pass(shape: &Shape, pass: &PassForm, k: u16) -> [u8; PAGE_BYTES]
@@ -24,13 +28,16 @@ pub fn encode_pass(shape: &Shape, pass: &PassForm, k: u16) -> [u8; PAGE_BYTES]
     end_body(page, 0)
 }
 
-/// The pass whose body as pass k + 1 the page is, or nothing where it is no pass's for this shape. k is below 256.
+/// The pass whose body as pass k + 1 the page is, or nothing where it is no pass's for this shape.
+/// A k of 256 or more is no pass's.
 pub fn decode_pass(shape: &Shape, k: u16, page: &[u8; PAGE_BYTES]) -> Option<PassForm>
-    requires { k < 256 }
     ensures { MatchOption result
         ((pass : PassForm) → ¬ IsPassBody shape.now k page.now pass)
         (λ pass. IsPassBody shape.now k page.now pass) }
 {
+    if k >= MOST_PASSES {
+        return None;
+    }
     let pass = read_pass_form(shape, page)?;
     if same_page(&encode_pass(shape, &pass, k), page) {
         Some(pass)
@@ -50,7 +57,7 @@ fn may_be_low(shape: &Shape, low: u8) -> bool
 fn read_pass_form(shape: &Shape, page: &[u8; PAGE_BYTES]) -> Option<PassForm>
     ensures shape { IfSome result (λ pass. IsOfShape shape.now pass) }
     ensures columns { IfSome result (λ pass. HasColumns pass.map.map) }
-    ensures read { (pass : PassForm) (k : ℕ) → k < 256 → IsPassBody shape.now k page.now pass
+    ensures read { (pass : PassForm) (k : ℕ) → IsPassBody shape.now k page.now pass
         → IsSomeAnd result (λ found. (found.low ≡ pass.low) × (found.map.map ≡ pass.map.map)) }
 {
     let low = page[10];

@@ -29,7 +29,8 @@ fn read_pass_pages<R: Rack>(
     ensures state { SameState (R.view rack.old) (R.view rack.new) }
     ensures counts { MakesPageCalls (IsOk result) 2 0 (R.view rack.old) (R.view rack.new) }
     ensures keeps { Keeps (R.view rack.old) (R.view rack.new) }
-    ensures cause { HasCause (IsErrOf result ControlError.Failed) (R.view rack.old) (R.view rack.new) }
+    ensures cause { HasCause (IsErrOf result ControlError.Failed)
+        (R.view rack.old) (R.view rack.new) }
 {
     let body = page_of(rack, 4 + 2 * k)?;
     let Some(_) = decode_pass(shape, k, &body) else {
@@ -55,7 +56,8 @@ pub fn read_passes<R: Rack>(rack: &mut R, shape: &Shape, passes: u16) -> Result<
     ensures state { SameState (R.view rack.old) (R.view rack.new) }
     ensures counts { MakesPageCalls (IsOk result) (2 * passes) 0 (R.view rack.old) (R.view rack.new) }
     ensures keeps { Keeps (R.view rack.old) (R.view rack.new) }
-    ensures cause { HasCause (IsErrOf result ControlError.Failed) (R.view rack.old) (R.view rack.new) }
+    ensures cause { HasCause (IsErrOf result ControlError.Failed)
+        (R.view rack.old) (R.view rack.new) }
 {
     let mut done = 0;
     for k in 0..passes {

@@ -1,8 +1,7 @@
 //! Progress within a pass.
-ghost use Rattle.std.specs.Prelude.{◌≡◌, ◌+◌, ◌*◌, ◌<◌, IsTrue, IsOk, IsErr, OnOk, Some};
+ghost use Rattle.std.specs.Prelude.{◌≡◌, ◌+◌, ◌*◌, ◌<◌, IsTrue, IsOk, IsErr, OnOk};
 ghost use Rattle.bm_base.specs.Contents.{page_at};
 ghost use Rattle.bm_base.specs.Gate.{IsOpenGate, IsClosedGate};
-ghost use Rattle.bm_base.specs.Shape.{dims_of};
 ghost use Rattle.bm_rack.specs.RackView.{IsAttached, IsClean};
 ghost use Rattle.bm_rack.specs.Frames.{RackCall};
 ghost use Rattle.bm_rack.specs.Calls.{IsPage};
@@ -17,12 +16,12 @@ use crate::part_body::encode_part;
 use bm_base::{Failed, PAGE_BYTES, Shape};
 use bm_rack::Rack;
 
-/// Makes durable that the first `loads` loads of a pass are moved, in a slot, 0 or 1, that is not the
-/// counted one. The pass is counted from 1, 254 at most; the loads are below N/M.
+/// Makes durable that the first `loads` loads of a pass are moved, in a slot, 0 or 1, that is not
+/// the counted one. The pass is counted from 1, 254 at most; the loads are below N/M.
 ///
-/// It closes the slot where it is open, writes the body, and opens the slot, with a sync after each.
-/// A gate that is closed already is not written, since its body may be anything. A rack that is sound
-/// stays sound at each exit.
+/// It closes the slot where it is open, writes the body, and opens the slot, with a sync after
+/// each. A gate that is closed already is not written, since its body may be anything. A rack that
+/// is sound stays sound at each exit.
 pub fn mark_part<R: Rack>(
     rack: &mut R,
     shape: &Shape,
@@ -30,7 +29,7 @@ pub fn mark_part<R: Rack>(
     pass: u16,
     loads: u64,
 ) -> Result<(), Failed>
-    requires attached { (R.view rack.old).attached ≡ Some (dims_of shape.now) }
+    requires ready { IsAttached (R.view rack.old).attached }
     requires slot { slot < 2 }
     requires fits { PartBodyFits shape.now pass loads }
     ensures sound { IsTrue R.tells_stands → IsTrue R.tells_contents
@@ -67,7 +66,8 @@ fn close_slot<R: Rack>(rack: &mut R, slot: u8) -> Result<(), Failed>
         → OnOk result (IsClosedGate (page_at (R.view rack.new).contents (513 + 2 * slot))) }
     ensures settled { IsTrue R.tells_contents → IsCleanPage (513 + 2 * slot) (R.view rack.old)
         → OnOk result (IsCleanPage (513 + 2 * slot) (R.view rack.new)) }
-    ensures call { RackCall (IsPage (513 + 2 * slot)) (IsErr result) (R.view rack.old) (R.view rack.new) }
+    ensures call { RackCall (IsPage (513 + 2 * slot)) (IsErr result)
+        (R.view rack.old) (R.view rack.new) }
     ensures most { MakesPageCalls ⊥ 2 1 (R.view rack.old) (R.view rack.new) }
     ensures from_closed { IsTrue R.tells_contents
         → IsClosedGate (page_at (R.view rack.old).contents (513 + 2 * slot))

@@ -4,8 +4,9 @@ ghost use Rattle.bm_base.specs.Contents.{Contents};
 ghost use Rattle.bm_rack.specs.RackView.{IsAttached};
 ghost use Rattle.bm_rack.specs.Frames.{SameState, Keeps, HasCause};
 ghost use Rattle.bm_control.specs.Bodies.{loads_of};
-ghost use Rattle.bm_control.specs.PageCalls.{ReadsPages};
+ghost use Rattle.bm_control.specs.PageCalls.{MakesPageCalls, ReadsPages};
 ghost use Rattle.bm_control.specs.State.{SlotAnswer, SlotsAnswer, CountedOf, CountFits, PartFits};
+ghost use Rattle.bm_control.specs.StateCalls.{SlotReads};
 
 use crate::gates::is_gate;
 use crate::part_body::decode_part;
@@ -30,11 +31,16 @@ fn read_slot<R: Rack>(
     requires done { done ≤ 254 }
     ensures answer { IsTrue R.tells_contents → (v : Contents) → (R.view rack.old).contents ≡ v
         → SlotAnswer shape.now v passes done slot result }
-    ensures fits { IfOk result (λ found. IfSome found (λ loads. CountFits shape.now passes done loads)) }
+    ensures fits { IfOk result (λ found.
+        IfSome found (λ loads. CountFits shape.now passes done loads)) }
     ensures state { SameState (R.view rack.old) (R.view rack.new) }
     ensures counts { ReadsPages 0 2 (R.view rack.old) (R.view rack.new) }
+    ensures gate { IsTrue R.tells_contents → (v : Contents) → (R.view rack.old).contents ≡ v
+        → (n : ℕ) → SlotReads v slot n → MakesPageCalls (IsOk result) n 0
+        (R.view rack.old) (R.view rack.new) }
     ensures keeps { Keeps (R.view rack.old) (R.view rack.new) }
-    ensures cause { HasCause (IsErrOf result ControlError.Failed) (R.view rack.old) (R.view rack.new) }
+    ensures cause { HasCause (IsErrOf result ControlError.Failed)
+        (R.view rack.old) (R.view rack.new) }
 {
     let gate = page_of(rack, 513 + 2 * u16::from(slot))?;
     if !is_gate(&gate) {
@@ -74,8 +80,8 @@ fn counted(first: Option<u64>, second: Option<u64>) -> (u64, u8)
     }
 }
 
-/// Reads the slots of a job that has them. The answer is the number of loads that are counted of the
-/// pass under way, and the slot that counts them, 2 where none does.
+/// Reads the slots of a job that has them. The answer is the number of loads that are counted of
+/// the pass under way, and the slot that counts them, 2 where none does.
 pub fn read_slots<R: Rack>(
     rack: &mut R,
     shape: &Shape,
@@ -92,8 +98,12 @@ pub fn read_slots<R: Rack>(
     ensures state { SameState (R.view rack.old) (R.view rack.new) }
     ensures counts { ReadsPages 0 4 (R.view rack.old) (R.view rack.new) }
     ensures none { every ≡ loads_of shape.now → ReadsPages 0 0 (R.view rack.old) (R.view rack.new) }
+    ensures gates { IsTrue R.tells_contents → (v : Contents) → (R.view rack.old).contents ≡ v
+        → every < loads_of shape.now → (one two : ℕ) → SlotReads v 0 one → SlotReads v 1 two
+        → MakesPageCalls (IsOk result) (one + two) 0 (R.view rack.old) (R.view rack.new) }
     ensures keeps { Keeps (R.view rack.old) (R.view rack.new) }
-    ensures cause { HasCause (IsErrOf result ControlError.Failed) (R.view rack.old) (R.view rack.new) }
+    ensures cause { HasCause (IsErrOf result ControlError.Failed)
+        (R.view rack.old) (R.view rack.new) }
 {
     if every == shape.loads() {
         return Ok((0, NO_SLOT));

@@ -41,8 +41,8 @@ pub enum SlateState {
 pub enum ControlError {
     /// The rack failed.
     Failed,
-    /// This page is wrong: a body that doesn't decode, a pass gate that is open after a closed one, or
-    /// the body of an open slot whose pass can't be under way or done.
+    /// This page is wrong: a body that doesn't decode, a pass gate that is open after a closed one,
+    /// or the body of an open slot whose pass can't be under way or done.
     BadPage {
         /// The page's number.
         page: u16,
@@ -59,7 +59,8 @@ pub fn page_of<R: Rack>(rack: &mut R, page: u16) -> Result<[u8; PAGE_BYTES], Con
     ensures state { SameState (R.view rack.old) (R.view rack.new) }
     ensures counts { RaisesCounts 0 1 0 (R.view rack.old) (R.view rack.new) }
     ensures keeps { Keeps (R.view rack.old) (R.view rack.new) }
-    ensures cause { HasCause (IsErrOf result ControlError.Failed) (R.view rack.old) (R.view rack.new) }
+    ensures cause { HasCause (IsErrOf result ControlError.Failed)
+        (R.view rack.old) (R.view rack.new) }
 {
     let mut bytes = [0; PAGE_BYTES];
     match rack.read_page(page, &mut bytes) {

@@ -8,6 +8,10 @@ mod areas;
 #[cfg(test)]
 mod calling;
 #[cfg(test)]
+mod control_rows;
+#[cfg(test)]
+mod control_stops;
+#[cfg(test)]
 mod flip_faults;
 #[cfg(test)]
 mod flip_rows;
@@ -17,5 +21,7 @@ mod job_rows;
 mod pass_rows;
 #[cfg(test)]
 mod plan_rows;
+#[cfg(test)]
+mod slates;
 #[cfg(test)]
 mod text_rows;

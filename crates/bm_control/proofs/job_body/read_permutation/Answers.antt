@@ -16,7 +16,8 @@ abbrev Reads : ℕ → List ℕ → (Affine → Type 0) → Type 0
 Reads n page P = (head : List ℕ) (f : Affine) (last : ℕ) → length head ≡ 16 → HasColumns f → f.a.n ≡ n → page ≡ map_page head (map_bytes f) last → P f
 
 -- of a job body it is the permutation's map
-read_of : (s : Shape) (page : List ℕ) (job : Job) (passes every : ℕ) (P : Affine → Type 0) → IsJobBody s page job passes every → slice_index page 10 ≡ 1 → Reads s.n page P
+read_of : (s : Shape) (page : List ℕ) (job : Job) (passes every : ℕ) (P : Affine → Type 0) → IsJobBody s page job passes every
+    → slice_index page 10 ≡ 1 → Reads s.n page P
     → (f : Affine) × (job ≡ Permute f) × IsNonsingular f.a × P f
 unfolding job_page
 read_of s page (Permute f) passes every P body kind reads = (

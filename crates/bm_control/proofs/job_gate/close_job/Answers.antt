@@ -13,4 +13,5 @@ returns-clause-sound g c told_stands told_contents sound clean gate =
 
 pub returns-clause-closed : goal.returns-clause-closed
 returns-clause-closed g c told =
-    on_ok_weaker c.write_page_durably.result (zeros_closed (page_at (g.R.Rack.view c.write_page_durably.new.rack).contents 3)) (c.write_page_durably.ensures.taken told)
+    on_ok_weaker c.write_page_durably.result (zeros_closed (page_at (g.R.Rack.view c.write_page_durably.new.rack).contents 3))
+    (c.write_page_durably.ensures.taken told)

@@ -17,7 +17,8 @@ returns-then-every-loads-clause-written g c told ok =
     (record {
       columns = c.encode_job-body.ensures.columns;
       fits = c.requires.fits;
-      page_is = c.write_passes.ensures.call.frame.contents (page_unit 2) (λ e. (let a = e.0 in omega (arith, a))) ∙ c.in_ok-write_page.ensures.written.taking told refl
+      page_is = c.write_passes.ensures.call.frame.contents (page_unit 2) (λ e. (let a = e.0 in omega (arith, a)))
+          ∙ c.in_ok-write_page.ensures.written.taking told refl
           ∙ c.encode_job-body.ensures.page ∙ ap (λ (p : ℕ). job_page c.args.shape.now c.args.job.now p c.args.every) c.len.ensures.count;
     })
     (c.in_ok-write_passes.ensures.written told refl)
@@ -32,8 +33,10 @@ returns-clause-written g c told ok =
       columns = c.encode_job-body.ensures.columns;
       fits = c.requires.fits;
       page_is = c.close_slots.ensures.call.frame.contents (page_unit 2) (λ e. elim e [ inl x ↦ omega (arith, x) | inr x ↦ omega (arith, x) ])
-          ∙ c.write_passes.ensures.call.frame.contents (page_unit 2) (λ e. (let a = e.0 in omega (arith, a))) ∙ c.in_ok-write_page.ensures.written.taking told refl
+          ∙ c.write_passes.ensures.call.frame.contents (page_unit 2) (λ e. (let a = e.0 in omega (arith, a)))
+          ∙ c.in_ok-write_page.ensures.written.taking told refl
           ∙ c.encode_job-body.ensures.page ∙ ap (λ (p : ℕ). job_page c.args.shape.now c.args.job.now p c.args.every) c.len.ensures.count;
     })
-    (passes_kept c.args.shape.now c.args.plan.now.forms (length c.args.plan.now.forms) _ _ (omega (arith, few, most)) c.close_slots.ensures.call.frame (c.in_ok-write_passes.ensures.written told refl))
+    (passes_kept c.args.shape.now c.args.plan.now.forms (length c.args.plan.now.forms) _ _ (omega (arith, few, most))
+    c.close_slots.ensures.call.frame (c.in_ok-write_passes.ensures.written told refl))
     (λ less. (c.close_slots.ensures.first told ok, c.close_slots.ensures.second told ok))

@@ -14,14 +14,17 @@ loop-k-preserved g c = record {
       (DirtiesOnly-wider _ (IsPassPage (c.loop-k.k + 1)) _ _ (own_pages c.loop-k.k) c.write_pass.ensures.call.frame);
   keeps = Keeps-trans _ _ _ c.loop-k.invariant.keeps c.write_pass.ensures.call.keeps;
   counts = (let two = c.in_ok-write_pass.ensures.counts.done refl in
-      subst (λ (n : ℕ). RaisesCounts 0 n 0 (g.R.Rack.view c.args.rack.now) (g.R.Rack.view c.write_pass.new.rack)) (let e : 2 * c.loop-k.k + 2 ≡ 2 * (c.loop-k.k + 1) = omega arith in e)
+      subst (λ (n : ℕ). RaisesCounts 0 n 0 (g.R.Rack.view c.args.rack.now) (g.R.Rack.view c.write_pass.new.rack))
+      (let e : 2 * c.loop-k.k + 2 ≡ 2 * (c.loop-k.k + 1) = omega arith in e)
       (RaisesCounts-trans 0 (2 * c.loop-k.k) 0 0 2 0 _ _ _ c.loop-k.invariant.counts two));
   written = λ told. written_more c.args.shape.now c.args.plan.now.forms c.loop-k.k c.at.result.now _ _
       (slice_get_read c.args.plan.now.forms _ c.loop-k.k c.at.result.now c.len-k-end.ensures.count c.loop-k-test.true c.at.ensures.form)
-      c.write_pass.ensures.call.frame (c.in_ok-write_pass.ensures.body told refl) (c.in_ok-write_pass.ensures.gate told refl) (c.loop-k.invariant.written told);
+      c.write_pass.ensures.call.frame (c.in_ok-write_pass.ensures.body told refl) (c.in_ok-write_pass.ensures.gate told refl)
+      (c.loop-k.invariant.written told);
 }
 
 pub returns-clause-written : goal.returns-clause-written
 returns-clause-written g c told ok =
     let all : c.loop-k.k ≡ length c.args.plan.now.forms = (let e = c.len-k-end.ensures.count in omega (arith, e)) in
-    subst (λ (k : ℕ). PassesAreWritten c.args.shape.now c.args.plan.now.forms k (g.R.Rack.view c.loop-k.rack).contents) all (c.loop-k.invariant.written told)
+    subst (λ (k : ℕ). PassesAreWritten c.args.shape.now c.args.plan.now.forms k (g.R.Rack.view c.loop-k.rack).contents) all
+    (c.loop-k.invariant.written told)

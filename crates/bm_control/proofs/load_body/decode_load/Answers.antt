@@ -23,7 +23,8 @@ returns-then-same_page c shape =
       λ e. whole ∙ ap load_page (some_injective c.in-Ok.shape shape e),
       λ is.
           let numbers = load_numbers shape _ is in
-          ap Some (shape_equal c.in-Ok.shape shape (sizes.0 ∙ numbers.n) (sizes.1 ∙ numbers.b) (sizes.2 ∙ numbers.d) (sizes.3 ∙ numbers.m) (sizes.4 ∙ c.u16_at-width.ensures ∙ numbers.width)),
+          ap Some (shape_equal c.in-Ok.shape shape (sizes.0 ∙ numbers.n) (sizes.1 ∙ numbers.b) (sizes.2 ∙ numbers.d) (sizes.3 ∙ numbers.m)
+          (sizes.4 ∙ c.u16_at-width.ensures ∙ numbers.width)),
     )
 
 pub returns-else-same_page : goal.returns-else-same_page
@@ -32,7 +33,8 @@ returns-else-same_page c shape = (
   λ is.
       let numbers = load_numbers shape _ is in
       let sizes = c.in-Ok.ensures.sizes in
-      let same = shape_equal c.in-Ok.shape shape (sizes.0 ∙ numbers.n) (sizes.1 ∙ numbers.b) (sizes.2 ∙ numbers.d) (sizes.3 ∙ numbers.m) (sizes.4 ∙ c.u16_at-width.ensures ∙ numbers.width) in
+      let same = shape_equal c.in-Ok.shape shape (sizes.0 ∙ numbers.n) (sizes.1 ∙ numbers.b) (sizes.2 ∙ numbers.d) (sizes.3 ∙ numbers.m)
+      (sizes.4 ∙ c.u16_at-width.ensures ∙ numbers.width) in
       let yes = c.same_page.ensures.1 (c.encode_load.ensures ∙ ap load_page same ∙ sym is) in
       absurd (one_outcome c.same_page.result yes c.if-same_page.false),
 )

@@ -11,11 +11,11 @@ use Rattle.bm_control.proofs.load_gate.open_load.Goals as goal
 
 -- both gates stay closed
 pub returns-in_err-write_page_durably-clause-sound : goal.returns-in_err-write_page_durably-clause-sound
-returns-in_err-write_page_durably-clause-sound g c told_stands told_contents one three =
+returns-in_err-write_page_durably-clause-sound g c told_stands told_contents dims_are one three =
     let v = g.R.Rack.view c.args.rack.now in
     let dims = dims_of c.args.shape.now in
     let fits = g.met.R.Rack.consistent c.args.rack.now in
-    let stands = fits.attached told_stands dims c.requires in
+    let stands = fits.attached told_stands dims dims_are in
     let sizes = fits.sizes told_stands told_contents dims stands in
     let w = c.write_page_durably.ensures.call.frame in
     sound_closed _
@@ -24,18 +24,19 @@ returns-in_err-write_page_durably-clause-sound g c told_stands told_contents one
 
 -- the body stands on the disks before its gate is written
 pub returns-clause-sound : goal.returns-clause-sound
-returns-clause-sound g c told_stands told_contents one three =
+returns-clause-sound g c told_stands told_contents dims_are one three =
     let v = g.R.Rack.view c.args.rack.now in
     let s = c.args.shape.now in
     let fits = g.met.R.Rack.consistent c.args.rack.now in
-    let stands = fits.attached told_stands (dims_of s) c.requires in
+    let stands = fits.attached told_stands (dims_of s) dims_are in
     let sizes = fits.sizes told_stands told_contents (dims_of s) stands in
     let clean = c.in_ok-write_page_durably.ensures.clean in
     let first = c.write_page_durably.ensures.call.frame in
     let second = c.write_page_durably-2.ensures.call.frame in
     let body : page_at (g.R.Rack.view c.write_page_durably.new.rack).contents 0 ≡ load_page s =
     c.in_ok-write_page_durably.ensures.taken told_contents ∙ c.encode_load.ensures in
-    let three_1 = settled_within IsClosedGate (IsPage 0) 3 _ _ first (λ e. omega (arith, e)) (closed_settled v (dims_of s) 3 (omega arith) stands sizes three) in
+    let three_1 = settled_within IsClosedGate (IsPage 0) 3 _ _ first (λ e. omega (arith, e))
+    (closed_settled v (dims_of s) 3 (omega arith) stands sizes three) in
     sound_loaded _ s (second.stands ∙ first.stands ∙ stands)
     (settled_within (λ p. p ≡ load_page s) (IsPage 1) 0 _ _ second (λ e. omega (arith, e)) (settled_clean (λ p. p ≡ load_page s) 0 _ clean body))
     (settled_within IsClosedGate (IsPage 1) 3 _ _ second (λ e. omega (arith, e)) three_1)
@@ -44,5 +45,7 @@ returns-clause-sound g c told_stands told_contents one three =
 pub returns-clause-body : goal.returns-clause-body
 returns-clause-body g c told =
     on_ok_weaker c.write_page_durably-2.result
-    (λ (taken : page_at (g.R.Rack.view c.write_page_durably-2.new.rack).contents 1 ≡ c.gate_page.result). c.write_page_durably-2.ensures.call.frame.contents (page_unit 0) (λ e. omega (arith, e)) ∙ c.in_ok-write_page_durably.ensures.taken told ∙ c.encode_load.ensures)
+    (λ (taken : page_at (g.R.Rack.view c.write_page_durably-2.new.rack).contents 1 ≡ c.gate_page.result).
+    c.write_page_durably-2.ensures.call.frame.contents (page_unit 0) (λ e. omega (arith, e)) ∙ c.in_ok-write_page_durably.ensures.taken told
+    ∙ c.encode_load.ensures)
     (c.write_page_durably-2.ensures.taken told)

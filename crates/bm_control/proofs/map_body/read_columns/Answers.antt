@@ -1,4 +1,5 @@
-use Rattle.std.proofs.Common.{◌≡◌, ℕ, ◌+◌, ◌*◌, ◌^◌, ◌<◌, List, set, length, drop, slice_index, inl, inr, ap, sym, subst, ◌∙◌, arith, length-set, get_or-set_same, get_or-set_other}
+use Rattle.std.proofs.Common.{◌≡◌, ℕ, ◌+◌, ◌*◌, ◌^◌, ◌<◌, List, set, length, drop, slice_index, inl, inr, ap, sym, subst, ◌∙◌, arith, length-set}
+use Rattle.std.proofs.Common.{get_or-set_same, get_or-set_other}
 use Rattle.std.proofs.lemmas.Bool.{cases_eq}
 use Rattle.bm_forms.proofs.MldLemmas.{below_of_none}
 use Rattle.bm_control.specs.Bodies.{u64_in}
@@ -23,7 +24,10 @@ loop-j-preserved c =
     c.u64_at-column.ensures ∙ ap (λ (k : ℕ). u64_in (drop (24 + 8 * k) c.args.page.now)) c.from.ensures in
     record {
       long = length-set c.loop-j.cols c.from-in-loop-j.result c.u64_at-column.result ∙ c.loop-j.invariant.long;
-      columns = one_more (λ j v. v ≡ u64_in (drop (24 + 8 * j) c.args.page.now)) c.loop-j.cols c.loop-j.j _ _ is within seen c.loop-j.invariant.columns;
-      below = one_more (λ j v. v < 2 ^ c.args.n) c.loop-j.cols c.loop-j.j _ _ is within (below_of_none _ c.args.n c.if-column-n-ne0.false) c.loop-j.invariant.below;
-      rest = λ j h. get_or-set_other c.loop-j.cols c.from-in-loop-j.result j c.u64_at-column.result 0 (λ e. omega (arith, e)) ∙ c.loop-j.invariant.rest j (omega arith);
+      columns = one_more (λ j v. v ≡ u64_in (drop (24 + 8 * j) c.args.page.now)) c.loop-j.cols c.loop-j.j _ _ is within seen
+          c.loop-j.invariant.columns;
+      below = one_more (λ j v. v < 2 ^ c.args.n) c.loop-j.cols c.loop-j.j _ _ is within (below_of_none _ c.args.n c.if-column-n-ne0.false)
+          c.loop-j.invariant.below;
+      rest = λ j h. get_or-set_other c.loop-j.cols c.from-in-loop-j.result j c.u64_at-column.result 0 (λ e. omega (arith, e))
+          ∙ c.loop-j.invariant.rest j (omega arith);
     }

@@ -7,9 +7,12 @@ pub returns-clause-page : goal.returns-clause-page
 unfolding pass_page map_page
 returns-clause-page c =
     c.end_body.ensures
-    ∙ ap (λ (x : List ℕ). padded 504 x ++ u64_bytes 0) (c.put_map.ensures.bytes ∙ ap (λ (x : List ℕ). x ++ map_bytes c.affine.result.now) c.start_body-page.ensures.bytes)
-    ∙ ap (λ (n : ℕ). padded 504 (body_head (codes "BMMCPASS") 1 c.args.pass.now.low n (c.args.k + 1) ++ map_bytes c.affine.result.now) ++ u64_bytes 0) c.n.ensures
-    ∙ ap (λ (f : Affine). padded 504 (body_head (codes "BMMCPASS") 1 c.args.pass.now.low c.args.shape.now.n (c.args.k + 1) ++ map_bytes f) ++ u64_bytes 0) c.affine.ensures
+    ∙ ap (λ (x : List ℕ). padded 504 x ++ u64_bytes 0) (c.put_map.ensures.bytes
+    ∙ ap (λ (x : List ℕ). x ++ map_bytes c.affine.result.now) c.start_body-page.ensures.bytes)
+    ∙ ap (λ (n : ℕ). padded 504 (body_head (codes "BMMCPASS") 1 c.args.pass.now.low n (c.args.k + 1) ++ map_bytes
+    c.affine.result.now) ++ u64_bytes 0) c.n.ensures
+    ∙ ap (λ (f : Affine). padded 504 (body_head (codes "BMMCPASS") 1 c.args.pass.now.low c.args.shape.now.n
+    (c.args.k + 1) ++ map_bytes f) ++ u64_bytes 0) c.affine.ensures
 
 pub returns-clause-columns : goal.returns-clause-columns
 returns-clause-columns c = subst (λ (f : Affine). HasColumns f) c.affine.ensures c.put_map.ensures.columns

@@ -14,5 +14,6 @@ returns-clause-sound g c told_stands told_contents sound done =
     let dims = c.requires.ready.0 in
     let s = c.sync.ensures.synced in
     let stands = s.stands ∙ (g.met.R.Rack.consistent c.args.rack.now).attached told_stands dims c.requires.ready.1 in
-    sound_opening _ _ dims c.args.k stands (fits.sizes told_stands told_contents dims stands) (sound_synced _ _ _ s sound) (c.in_ok-sync.ensures.synced.clean refl)
+    sound_opening _ _ dims c.args.k stands (fits.sizes told_stands told_contents dims stands) (sound_synced _ _ _ s sound)
+    (c.in_ok-sync.ensures.synced.clean refl)
     (subst (λ (v : Contents). PassIsDone v c.args.k) (sym s.contents) done) c.write_page_durably.ensures.call.frame

@@ -8,7 +8,11 @@ returns-then-not-is_gate-clause-answer g c told v at =
     let body = c.in_ok-body.ensures.bytes told v at in
     let gate = c.in_ok-gate.ensures.bytes told v (c.page_of.ensures.state.contents ∙ at) in
     record {
-      body = record { pass = c.in-Some.field-0; body = subst (λ (p : List ℕ). IsPassBody c.args.shape.now c.args.k p c.in-Some.field-0) body c.in-Some.ensures };
+      body = record {
+        pass = c.in-Some.field-0;
+        body = subst (λ (p : List ℕ). IsPassBody c.args.shape.now c.args.k p c.in-Some.field-0) body
+            c.in-Some.ensures;
+      };
       gate = inr ((λ opened. one_outcome c.is_gate.result (c.is_gate.ensures.1 (gate ∙ opened)) c.if-not-is_gate.true), refl);
     }
 
@@ -17,7 +21,11 @@ returns-then-done-k-clause-answer g c told v at =
     let body = c.in_ok-body.ensures.bytes told v at in
     let gate = c.in_ok-gate.ensures.bytes told v (c.page_of.ensures.state.contents ∙ at) in
     inr (
-      record { pass = c.in-Some.field-0; body = subst (λ (p : List ℕ). IsPassBody c.args.shape.now c.args.k p c.in-Some.field-0) body c.in-Some.ensures },
+      record {
+        pass = c.in-Some.field-0;
+        body = subst (λ (p : List ℕ). IsPassBody c.args.shape.now c.args.k p c.in-Some.field-0) body
+            c.in-Some.ensures;
+      },
       c.if-done-k.true,
       sym gate ∙ c.is_gate.ensures.0 c.if-not-is_gate.false,
       refl,
@@ -29,6 +37,10 @@ returns-clause-answer g c told v at =
     let gate = c.in_ok-gate.ensures.bytes told v (c.page_of.ensures.state.contents ∙ at) in
     let few = c.requires.done in
     record {
-      body = record { pass = c.in-Some.field-0; body = subst (λ (p : List ℕ). IsPassBody c.args.shape.now c.args.k p c.in-Some.field-0) body c.in-Some.ensures };
+      body = record {
+        pass = c.in-Some.field-0;
+        body = subst (λ (p : List ℕ). IsPassBody c.args.shape.now c.args.k p c.in-Some.field-0) body
+            c.in-Some.ensures;
+      };
       gate = inl (sym gate ∙ c.is_gate.ensures.0 c.if-not-is_gate.false, omega (arith, few, c.if-done-k.false), refl);
     }

@@ -9,7 +9,8 @@ use Rattle.bm_control.proofs.pass_pages.read_passes.Goals as goal
 
 pub returns-in_err-done-clause-answer : goal.returns-in_err-done-clause-answer
 returns-in_err-done-clause-answer g c told v at =
-    subst (λ (r : Result ℕ ControlError). PassesAnswer c.args.shape.now v c.args.passes r) (sym (error_is c.from_residual.result _ c.from_residual.ensures.1))
+    subst (λ (r : Result ℕ ControlError). PassesAnswer c.args.shape.now v c.args.passes r)
+    (sym (error_is c.from_residual.result _ c.from_residual.ensures.1))
     (passes_bad c.args.shape.now v c.args.passes c.loop-k.k c.loop-k.done _ c.loop-k-test.true (c.loop-k.invariant.answer told v at)
     (c.in_err-done.ensures.answer told v (c.loop-k.invariant.state.contents ∙ at)))
 
@@ -19,7 +20,8 @@ loop-k-preserved g c = record {
   state = SameState-trans _ _ _ c.loop-k.invariant.state c.read_pass_pages.ensures.state;
   keeps = Keeps-trans _ _ _ c.loop-k.invariant.keeps c.read_pass_pages.ensures.keeps;
   counts = (let two = c.in_ok-done.ensures.counts.done refl in
-      subst (λ (n : ℕ). RaisesCounts 0 n 0 (g.R.Rack.view c.args.rack.now) (g.R.Rack.view c.read_pass_pages.new.rack)) (let e : 2 * c.loop-k.k + 2 ≡ 2 * (c.loop-k.k + 1) = omega arith in e)
+      subst (λ (n : ℕ). RaisesCounts 0 n 0 (g.R.Rack.view c.args.rack.now) (g.R.Rack.view c.read_pass_pages.new.rack))
+      (let e : 2 * c.loop-k.k + 2 ≡ 2 * (c.loop-k.k + 1) = omega arith in e)
       (RaisesCounts-trans 0 (2 * c.loop-k.k) 0 0 2 0 _ _ _ c.loop-k.invariant.counts two));
   answer = λ told v at. passes_more c.args.shape.now v c.loop-k.k c.loop-k.done _ (c.loop-k.invariant.answer told v at)
       (c.in_ok-done.ensures.answer told v (c.loop-k.invariant.state.contents ∙ at));

@@ -22,7 +22,8 @@ returns-clause-sound g c told_stands told_contents sound =
     ∙ sym page ∙ c.is_gate.ensures.0 c.if-not-is_gate.false in
     sound_closing_slot (g.R.Rack.view c.read_page.new.self) (g.R.Rack.view c.write_page_durably.new.rack) dims c.args.slot c.requires.slot stands
     (fits.sizes told_stands told_contents dims stands) (sound_same _ _ state sound) opened
-    (subst (λ (k : ℕ). DirtiesOnly (IsPage (slot_gate k)) (g.R.Rack.view c.read_page.new.self) (g.R.Rack.view c.write_page_durably.new.rack)) c.from-2.ensures c.write_page_durably.ensures.call.frame)
+    (subst (λ (k : ℕ). DirtiesOnly (IsPage (slot_gate k)) (g.R.Rack.view c.read_page.new.self) (g.R.Rack.view c.write_page_durably.new.rack))
+    c.from-2.ensures c.write_page_durably.ensures.call.frame)
 
 pub returns-clause-closed : goal.returns-clause-closed
 returns-clause-closed g c told =

@@ -9,7 +9,8 @@ pub returns-then-pass-done-2-clause-answer : goal.returns-then-pass-done-2-claus
 returns-then-pass-done-2-clause-answer g c told v at =
     let page = c.in_ok-body.ensures.bytes told v (c.page_of.ensures.state.contents ∙ at) ∙ ap (λ (k : ℕ). page_at v (slot_body k)) c.from-2.ensures in
     slot_old c.args.shape.now v c.args.passes c.args.done c.args.slot c.in-Some.pass c.in-Some.loads
-    (subst (λ (p : List ℕ). IsPartBody c.args.shape.now p c.in-Some.pass c.in-Some.loads) page ((c.in-Some.ensures c.in-Some.pass c.in-Some.loads).0 refl))
+    (subst (λ (p : List ℕ). IsPartBody c.args.shape.now p c.in-Some.pass c.in-Some.loads) page
+    ((c.in-Some.ensures c.in-Some.pass c.in-Some.loads).0 refl))
     c.if-pass-passes.false c.if-pass-done-2.true
 
 pub returns-clause-answer : goal.returns-clause-answer
@@ -18,7 +19,8 @@ returns-clause-answer g c told v at =
     let gate = c.in_ok-gate.ensures.bytes told v at ∙ ap (λ (k : ℕ). page_at v (slot_gate k)) c.from.ensures in
     slot_now c.args.shape.now v c.args.passes c.args.done c.args.slot c.in-Some.pass c.in-Some.loads
     (sym gate ∙ c.is_gate.ensures.0 c.if-not-is_gate.false)
-    (subst (λ (p : List ℕ). IsPartBody c.args.shape.now p c.in-Some.pass c.in-Some.loads) page ((c.in-Some.ensures c.in-Some.pass c.in-Some.loads).0 refl))
+    (subst (λ (p : List ℕ). IsPartBody c.args.shape.now p c.in-Some.pass c.in-Some.loads) page
+    ((c.in-Some.ensures c.in-Some.pass c.in-Some.loads).0 refl))
     c.if-pass-passes.false (omega (arith, c.if-pass-done-2.false, c.if-pass-done.false))
 
 pub returns-clause-fits : goal.returns-clause-fits

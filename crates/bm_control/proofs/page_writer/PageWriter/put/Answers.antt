@@ -7,5 +7,6 @@ pub invariant_of-self : goal.invariant_of-self
 invariant_of-self c =
     let long = length-take-le c.self.inside.len c.self.inside.bytes (omega (arith, c.self.invariant.size, c.self.invariant.within)) in
     let seen = ap length c.self.view_is in
-    front_put c.self.inside.len (length c.args.bytes.now) _ c.self.inside.bytes _ c.self.invariant (omega arith) (ap length c.copy_from_slice.ensures.after)
+    front_put c.self.inside.len (length c.args.bytes.now) _ c.self.inside.bytes _ c.self.invariant (omega arith)
+    (ap length c.copy_from_slice.ensures.after)
     (omega (arith, long, seen, c.requires))

@@ -1,0 +1,89 @@
+-- How many pages are read of the control file, step by step.
+use Rattle.std.proofs.Common.{Ok, Err, ◌≡◌, ◌↔◌, ℕ, ◌+◌, ◌*◌, ◌≤◌, List, Option, Some, Result, IfOk, Bool, refl, sym, ◌∙◌, ap, subst, arith}
+use Rattle.bm_base.specs.declared.shape.Shape.{Shape}
+use Rattle.bm_base.specs.Contents.{Contents, page_at}
+use Rattle.bm_base.specs.Gate.{IsOpenGate}
+use Rattle.bm_rack.specs.RackView.{RackView, IsWellFormed}
+use Rattle.bm_rack.specs.Frames.{RaisesCounts}
+use Rattle.bm_rack.proofs.FrameLemmas.{RaisesCounts-trans, raised-zero}
+use Rattle.bm_forms.specs.declared.job.Job.{Job}
+use Rattle.bm_control.specs.declared.state.SlateState.{SlateState}
+use Rattle.bm_control.specs.declared.state.SlateState.TheVariants.{Closed, Loaded, Working}
+use Rattle.bm_control.specs.declared.state.ControlError.{ControlError}
+use Rattle.bm_control.specs.Bodies.{loads_of, load_page, IsJobBody}
+use Rattle.bm_control.specs.PageCalls.{ReadsPages}
+use Rattle.bm_control.specs.State.{IsJobOpen}
+use Rattle.bm_control.specs.StateCalls.{SlotCalls, JobPages, StatePages}
+use Rattle.bm_control.proofs.EqualLemmas.{some_injective}
+use Rattle.bm_control.proofs.PageCallLemmas.{reads_more}
+
+-- fewer pages than the bound
+pub reads_fewer : (most more : ℕ) (old new : RackView) → most ≤ more → ReadsPages 0 most old new → ReadsPages 0 more old new
+reads_fewer most more old new less x = record { moves = x.moves; syncs = x.syncs; low = x.low; high = (let h = x.high in omega (arith, h, less)) }
+
+-- a number of pages within the bound
+pub reads_within : {tells_stands tells_contents : Bool} (n most : ℕ) (old new : RackView) → IsWellFormed tells_stands tells_contents old → n ≤ most
+    → RaisesCounts 0 n 0 old new
+    → ReadsPages 0 most old new
+reads_within n most old new well less x =
+    let fp = well.pages in
+    record {
+      moves = x.moves ∙ raised-zero old.moves well.moves;
+      syncs = x.syncs ∙ raised-zero old.syncs well.syncs;
+      low = omega (arith, x.pages, fp);
+      high = omega (arith, x.pages, less);
+    }
+
+-- the pages of a job whose body was found
+pub job_pages : (s : Shape) (v : Contents) (page : List ℕ) (found : Job × ℕ × ℕ) (old new : RackView) → page ≡ page_at v 2
+    → ((job : Job) (passes every : ℕ) → ◌≡◌ {A = Option (Job × ℕ × ℕ)} (Some found) (Some (job, passes, every)) ↔ IsJobBody s page job passes every)
+    → ReadsPages 0 (5 + 2 * found.1) old new → (found.2 ≡ loads_of s → ReadsPages 0 (1 + 2 * found.1) old new) → JobPages s v old new
+job_pages s v page found old new at exact most whole = record {
+  bare = λ none. absurd (none found.0 found.1 found.2 (subst (λ (p : List ℕ). IsJobBody s p found.0 found.1 found.2) at
+      ((exact found.0 found.1 found.2).0 refl)));
+  most = λ job passes every body. subst (λ (p : ℕ). ReadsPages 0 (5 + 2 * p) old new)
+      (ap (λ (f : Job × ℕ × ℕ). f.1) (same job passes every body)) most;
+  whole = λ job passes every body all. subst (λ (p : ℕ). ReadsPages 0 (1 + 2 * p) old new)
+      (ap (λ (f : Job × ℕ × ℕ). f.1) (same job passes every body))
+      (whole (ap (λ (f : Job × ℕ × ℕ). f.2) (same job passes every body) ∙ all));
+}
+  where
+    same : (job : Job) (passes every : ℕ) → IsJobBody s (page_at v 2) job passes every → ◌≡◌ {A = Job × ℕ × ℕ} found (job, passes, every)
+    same job passes every body = some_injective {X = Job × ℕ × ℕ} found (job, passes, every)
+        ((exact job passes every).1 (subst (λ (p : List ℕ). IsJobBody s p job passes every) (sym at) body))
+
+-- of the whole file: the pages up to the job gate, where the load gate is open
+pub first_pages : (v : Contents) (old new : RackView) → IsOpenGate (page_at v 1) → ReadsPages 0 3 old new → StatePages v old new
+first_pages v old new opened x = record {
+  unloaded = λ shut. absurd (shut opened);
+  idle = λ _. x;
+  bare = λ _. reads_fewer 3 4 old new (omega arith) x;
+  most = λ s job passes every _ _. reads_fewer 3 (8 + 2 * passes) old new (omega arith) x;
+  whole = λ s job passes every _ _ _. reads_fewer 3 (4 + 2 * passes) old new (omega arith) x;
+}
+
+-- and those of an open job after them
+pub job_state_pages : {tells_stands tells_contents : Bool} (s : Shape) (v : Contents) (a b c : RackView) → IsWellFormed tells_stands tells_contents a
+    → IsJobOpen s v → ((t : Shape) → page_at v 0 ≡ load_page t → s ≡ t) → RaisesCounts 0 3 0 a b → JobPages s v b c → StatePages v a c
+job_state_pages s v a b c well opened only three pages = record {
+  unloaded = λ shut. absurd (shut opened.load_gate);
+  idle = λ shut. absurd (shut opened.job_gate);
+  bare = λ none. reads_more 3 0 1 4 a b c well (omega arith) three (pages.bare (λ job passes every. none s job passes every opened.load_body))
+      (omega arith);
+  most = λ t job passes every load body. reads_more 3 0 (5 + 2 * passes) (8 + 2 * passes) a b c well (omega arith) three
+      (pages.most job passes every (subst (λ (r : Shape). IsJobBody r (page_at v 2) job passes every) (sym (only t load)) body)) (omega arith);
+  whole = λ t job passes every load body all. reads_more 3 0 (1 + 2 * passes) (4 + 2 * passes) a b c well (omega arith) three
+      (pages.whole job passes every (subst (λ (r : Shape). IsJobBody r (page_at v 2) job passes every) (sym (only t load)) body)
+      (subst (λ (r : Shape). every ≡ loads_of r) (sym (only t load)) all)) (omega arith);
+}
+
+-- three pages more before those of an open job
+pub slots_later : (v : Contents) (r : Result SlateState ControlError) (a b c : RackView) → RaisesCounts 0 3 0 a b
+    → IfOk r (λ state. SlotCalls v 1 state b c)
+    → IfOk r (λ state. SlotCalls v 4 state a c)
+slots_later v (Ok Closed) a b c three answer = tt
+slots_later v (Ok (Loaded s)) a b c three answer = tt
+slots_later v (Ok (Working s job passes done every part slot)) a b c three answer = λ less one two first second.
+    subst (λ (n : ℕ). RaisesCounts 0 n 0 a c) (let e : 3 + (1 + 2 * passes + (one + two)) ≡ 4 + 2 * passes + (one + two) = omega arith in e)
+    (RaisesCounts-trans 0 3 0 0 (1 + 2 * passes + (one + two)) 0 a b c three (answer less one two first second))
+slots_later v (Err e) a b c three answer = tt
