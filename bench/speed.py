@@ -1,10 +1,10 @@
 #!/usr/bin/env python3
-"""Measures placing and butterflies in memory beside plain Rust loops.
+"""Measures placing, butterflies and passes in memory beside plain Rust loops.
 
     python3 bench/speed.py [ROUNDS]
 
 builds crates/bm_speed by `rt run` and bench/loops.rs by `rustc -O`, runs both in turn so many
-times (5 where no number is given), and prints the least processor time of each move as a table.
+times (5 where no number is given), and prints the least processor time of each move as tables.
 It ends with status 1 where the two programs do not print the same checksums.
 """
 
@@ -15,7 +15,12 @@ import sys
 TOP = os.path.dirname(os.path.dirname(os.path.abspath(__file__)))
 OURS = os.path.join(TOP, "crates", "bm_speed", "out", "bm_speed")
 LOOPS = os.path.join(TOP, "bench", "out", "loops")
-LOAD_BYTES = 1 << 26
+
+# Each buffer gets fresh memory in both programs: memory that was used before is faster.
+MEMORY = {"MALLOC_MMAP_THRESHOLD_": "1048576"}
+
+# The forms of Rust that bm_speed has not, and the moves of bm_speed that move the same bytes.
+OTHER_FORMS = {"by-ones": "butterflies", "pass-stepped": "pass"}
 
 
 def build():
@@ -29,13 +34,23 @@ def build():
 
 
 def moves_of(program):
-    """What a program printed: for each move its checksum and its nanoseconds."""
-    text = subprocess.run([program, "measure"], check=True, capture_output=True, text=True).stdout
+    """What a program printed: for each move its checksum and its nanoseconds.
+
+    A move is an act, a map, the bytes of a record, and the KiB of a load and of a row.
+    """
+    call = {"check": True, "capture_output": True, "text": True, "env": {**os.environ, **MEMORY}}
     moves = {}
-    for line in text.splitlines():
-        act, name, width, checksum, nanoseconds = line.split()
-        moves[act, name, int(width)] = (checksum, int(nanoseconds))
+    for line in subprocess.run([program, "measure"], **call).stdout.splitlines():
+        act, name, width, load, row, checksum, nanoseconds = line.split()
+        moves[act, name, int(width), int(load), int(row)] = (checksum, int(nanoseconds))
     return moves
+
+
+def check_sums(ours, theirs):
+    """Ends the program where a move of the loops has not the checksum of bm_speed's."""
+    for (act, *rest), (checksum, _) in theirs.items():
+        if ours[OTHER_FORMS.get(act, act), *rest][0] != checksum:
+            sys.exit(f"checksums differ: {act} {rest}")
 
 
 def least_times(rounds):
@@ -44,30 +59,79 @@ def least_times(rounds):
     for number in range(rounds):
         order = (OURS, LOOPS) if number % 2 == 0 else (LOOPS, OURS)
         found = {program: moves_of(program) for program in order}
-        for move, (checksum, _) in found[OURS].items():
-            if found[LOOPS][move][0] != checksum:
-                sys.exit(f"checksums differ: {move}")
+        check_sums(found[OURS], found[LOOPS])
         for program, moves in found.items():
             for move, (_, nanoseconds) in moves.items():
                 best[program][move] = min(nanoseconds, best[program].get(move, nanoseconds))
     return best
 
 
-def print_table(best):
-    """A row a move: the speeds in MB/s, the ratio of the times, the part of a copy's speed."""
-    print("| move | map | width | bm_speed MB/s | Rust MB/s | time by Rust's | part of a copy |")
-    print("|---|---|---|---|---|---|---|")
-    copy = best[OURS]["copy", "identity", 1]
+def print_table(columns, rows):
+    print()
+    print("| " + " | ".join(columns) + " |")
+    print("|" + "---|" * len(columns))
+    for row in rows:
+        print("| " + " | ".join(row) + " |")
+
+
+def speed(load, nanoseconds):
+    """Millions of bytes a second."""
+    return f"{load * 1024 * 1000 / nanoseconds:.0f}"
+
+
+def part(others, ours):
+    """Our speed by that of others, whose nanoseconds these are."""
+    return f"{others / ours:.2f}"
+
+
+def placing_rows(best, load, row):
+    """Each placing of loads and rows of these sizes, in one step and in two."""
+    ours, loops = best[OURS], best[LOOPS]
+    for act, *sizes in ours:
+        if act == "stepped" and sizes[2:] == [load, row]:
+            stepped, two_step = ours["stepped", *sizes], ours["two-step", *sizes]
+            rust_stepped, rust_two_step = loops["stepped", *sizes], loops["two-step", *sizes]
+            times = (stepped, two_step, rust_stepped, rust_two_step)
+            yield [
+                sizes[0],
+                str(sizes[1]),
+                *(speed(load, time) for time in times),
+                part(min(rust_stepped, rust_two_step), two_step),
+                part(stepped, two_step),
+            ]
+
+
+def print_placings(best):
+    """A table for each size of a load and of a row."""
+    for act, _, _, load, row in list(best[OURS]):
+        if act != "copy":
+            continue
+        copies = [speed(load, best[program]["copy", "identity", 1, load, row]) for program in best]
+        print()
+        print(f"Loads of {load >> 10} MiB in rows of {row} KiB. A copy: {' and '.join(copies)} MB/s.")
+        columns = "map,width,stepped,two-step,Rust stepped,Rust two-step,part of Rust's,part of stepped"
+        print_table(columns.split(","), placing_rows(best, load, row))
+
+
+def other_rows(best, act, rust_other):
+    """The moves of an act, with two forms in Rust."""
     for move, ours in best[OURS].items():
-        theirs = best[LOOPS][move]
-        act, name, width = move
-        speeds = f"{LOAD_BYTES * 1000 / ours:.0f} | {LOAD_BYTES * 1000 / theirs:.0f}"
-        print(f"| {act} | {name} | {width} | {speeds} | {ours / theirs:.2f} | {copy / ours:.2f} |")
+        if move[0] == act:
+            _, name, width, load, _ = move
+            theirs, other = best[LOOPS][move], best[LOOPS][rust_other, *move[1:]]
+            times = (ours, theirs, other)
+            speeds = [speed(load, time) for time in times]
+            yield [name, str(width), *speeds, part(min(theirs, other), ours)]
 
 
 def main():
     build()
-    print_table(least_times(int(sys.argv[1]) if len(sys.argv) > 1 else 5))
+    best = least_times(int(sys.argv[1]) if len(sys.argv) > 1 else 5)
+    print_placings(best)
+    columns = "map,width,butterflies,Rust by two bits,Rust by one bit,part of Rust's"
+    print_table(columns.split(","), other_rows(best, "butterflies", "by-ones"))
+    columns = "map,width,pass,Rust in two steps,Rust stepped,part of Rust's"
+    print_table(columns.split(","), other_rows(best, "pass", "pass-stepped"))
 
 
 if __name__ == "__main__":

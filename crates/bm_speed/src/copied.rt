@@ -3,8 +3,8 @@
 ghost use Rattle.std.specs.Prelude.{◌≡◌, ◌+◌, ◌*◌, ◌^◌, ◌<◌, ◌≤◌, length};
 
 use crate::map_name::MapName;
-use crate::mode::Mode;
 use crate::pattern::fill;
+use crate::sizes::Sizes;
 use crate::stopwatch::{nanoseconds_used, print_line};
 use std::io;
 use std::time::CpuClock;
@@ -28,15 +28,15 @@ fn copy_load(rt: &impl CpuClock, load: &mut [u8], row: &mut [u8]) -> io::Result<
 }
 
 /// Copies a load row by row, and prints its line.
-pub fn copy_rows(rt: &HostRuntime, mode: Mode) -> io::Result<()> {
-    let mut load = vec![in rt.alloc(); 0u8; 1usize << mode.load_bits()]?;
-    let mut row = vec![in rt.alloc(); 0u8; 1usize << mode.row_bits()]?;
+pub fn copy_rows(rt: &HostRuntime, sizes: Sizes) -> io::Result<()> {
+    let mut load = vec![in rt.alloc(); 0u8; 1usize << sizes.load_bits]?;
+    let mut row = vec![in rt.alloc(); 0u8; 1usize << sizes.row_bits]?;
     let spent = copy_load(rt, &mut load, &mut row)?;
     print_line(
         rt,
-        mode,
+        sizes,
         "copy",
-        &MapName::Identity,
+        MapName::Identity,
         1,
         load.as_slice(),
         spent,

@@ -1,43 +1,114 @@
-//! The program that shows how fast records move in memory: through the placing of rows, and
-//! through butterflies.
+//! The program that shows how fast records move in memory: through the placing of rows, in one step
+//! and in two, through butterflies, and through a pass over disks in memory.
 //!
 //! With no words it moves a little, and prints a checksum for each move. With the word `measure`
-//! it moves 64 MiB each time, and adds the nanoseconds of processor time.
+//! it moves 16 and 64 MiB, and adds the nanoseconds of processor time.
 #![tactic(auto)]
 
 mod checksum;
 mod copied;
 mod map_name;
-mod mode;
+mod passed;
 mod pattern;
 mod placed;
+mod random_map;
+mod sizes;
 mod stopwatch;
 mod transformed;
+mod two_steps;
+
+ghost use Rattle.std.specs.Prelude.{◌<◌, ◌≤◌};
 
 use copied::copy_rows;
 use map_name::MapName;
-use mode::Mode;
-use placed::place_widths;
+use passed::pass;
+use placed::place;
+use sizes::Sizes;
 use std::{env, io};
 use transformed::transform;
+use two_steps::place_in_two;
 
-// The moves, each printed on a line.
-fn run(rt: &HostRuntime, mode: Mode) -> io::Result<()> {
-    copy_rows(rt, mode)?;
-    place_widths(rt, mode, MapName::Identity)?;
-    place_widths(rt, mode, MapName::Gray)?;
-    place_widths(rt, mode, MapName::Transpose)?;
-    place_widths(rt, mode, MapName::BitReversal)?;
-    transform(rt, mode, MapName::Identity)?;
-    transform(rt, mode, MapName::Gray)?;
-    transform(rt, mode, MapName::BitReversal)
+// Places loads of records of 1, 4, 8, 16 and 64 bytes, at once and in two steps.
+fn place_widths(rt: &HostRuntime, sizes: Sizes, name: MapName) -> io::Result<()> {
+    for width_bits in [0, 2, 3, 4, 6] {
+        place(rt, sizes, name, width_bits)?;
+    }
+    for width_bits in [0, 2, 3, 4, 6] {
+        place_in_two(rt, sizes, name, width_bits)?;
+    }
+    Ok(())
+}
+
+// Copies a load, and places loads by each map.
+fn place_all(rt: &HostRuntime, sizes: Sizes) -> io::Result<()> {
+    copy_rows(rt, sizes)?;
+    place_widths(rt, sizes, MapName::Identity)?;
+    place_widths(rt, sizes, MapName::Gray)?;
+    place_widths(rt, sizes, MapName::Transpose)?;
+    place_widths(rt, sizes, MapName::BitReversal)?;
+    place_widths(rt, sizes, MapName::Random)
+}
+
+// Transforms loads at the places of three maps.
+fn transform_all(rt: &HostRuntime, sizes: Sizes) -> io::Result<()> {
+    transform(rt, sizes, MapName::Identity)?;
+    transform(rt, sizes, MapName::Gray)?;
+    transform(rt, sizes, MapName::BitReversal)
+}
+
+// Does passes over loads of records of 8 and 64 bytes.
+fn pass_widths(rt: &HostRuntime, sizes: Sizes, name: MapName) -> io::Result<()> {
+    pass(rt, sizes, name, 3)?;
+    pass(rt, sizes, name, 6)
+}
+
+// Does passes by each map that moves records.
+fn pass_all(rt: &HostRuntime, sizes: Sizes) -> io::Result<()> {
+    pass_widths(rt, sizes, MapName::Gray)?;
+    pass_widths(rt, sizes, MapName::Transpose)?;
+    pass_widths(rt, sizes, MapName::BitReversal)?;
+    pass_widths(rt, sizes, MapName::Random)
+}
+
+// The moves of loads of 64 KiB in rows of 4 KiB, each printed on a line.
+fn check(rt: &HostRuntime) -> io::Result<()> {
+    let sizes = Sizes {
+        measured: false,
+        load_bits: 16,
+        row_bits: 12,
+    };
+    place_all(rt, sizes)?;
+    transform_all(rt, sizes)?;
+    pass_all(rt, sizes)
+}
+
+// Measured moves of loads of `2 ^ load_bits` bytes in rows of `2 ^ row_bits`.
+fn measured(load_bits: u8, row_bits: u8) -> Sizes
+    requires load { load_bits ≤ 26 }
+    requires least { 12 ≤ row_bits }
+    requires row { row_bits < load_bits }
+{
+    Sizes {
+        measured: true,
+        load_bits,
+        row_bits,
+    }
+}
+
+// The moves of loads of 16 and 64 MiB in rows of 64 and 256 KiB.
+fn measure(rt: &HostRuntime) -> io::Result<()> {
+    place_all(rt, measured(24, 16))?;
+    place_all(rt, measured(24, 18))?;
+    place_all(rt, measured(26, 16))?;
+    place_all(rt, measured(26, 18))?;
+    transform_all(rt, measured(26, 18))?;
+    pass_all(rt, measured(24, 18))
 }
 
 fn main(rt: HostRuntime) -> io::Result<()> {
     let words: Vec<String> = env::args(&rt)?.skip(1).collect(rt.alloc())?;
-    let mode = match words.first() {
-        Some(word) if word.as_str() == "measure" => Mode::Measure,
-        _ => Mode::Check,
-    };
-    run(&rt, mode)
+    match words.first() {
+        Some(word) if word.as_str() == "measure" => measure(&rt),
+        _ => check(&rt),
+    }
 }

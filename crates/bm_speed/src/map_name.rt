@@ -3,11 +3,12 @@
 ghost use Rattle.std.specs.Prelude.{◌≡◌, ◌^◌, ◌<◌, ◌≤◌};
 ghost use Rattle.bm_gf2.specs.Matrix.{IsNonsingular};
 
+use crate::random_map::random;
 use bm_gf2::Affine;
 use bm_named::{bit_reversal, gray, identity, transpose};
 use std::fmt;
 
-/// A map that `bm_named` makes for any size.
+/// A map that is made for any size.
 #[derive(Clone, Copy, Debug, PartialEq, Eq)]
 pub enum MapName {
     Identity,
@@ -15,6 +16,8 @@ pub enum MapName {
     /// Of as many rows as columns, or half as many.
     Transpose,
     BitReversal,
+    /// Of mixed numbers.
+    Random,
 }
 
 impl MapName {
@@ -30,6 +33,7 @@ impl MapName {
             MapName::Gray => gray(n),
             MapName::Transpose => transpose(n, n / 2),
             MapName::BitReversal => bit_reversal(n),
+            MapName::Random => random(n),
         }
     }
 }
@@ -41,6 +45,7 @@ impl fmt::Display for MapName {
             MapName::Gray => "gray",
             MapName::Transpose => "transpose",
             MapName::BitReversal => "bit-reversal",
+            MapName::Random => "random",
         })
     }
 }

@@ -1,15 +1,16 @@
-//! Loads that are placed row by row.
+//! Loads that are placed row by row, each record at its place at once.
 
-ghost use Rattle.std.specs.Prelude.{◌≡◌, ◌+◌, ◌-◌, ◌*◌, ◌^◌, ◌<◌, ◌≤◌, length};
-ghost use Rattle.bm_gf2.specs.Matrix.{IsNonsingular};
+ghost use Rattle.std.specs.Prelude.{◌≡◌, ◌+◌, ◌-◌, ◌*◌, ◌^◌, ◌<◌, ◌≤◌, length, IfOk};
 ghost use Rattle.bm_bufs.specs.Bufs.{FitsShape};
+ghost use Rattle.bm_speed.specs.Placed.{IsPlacingOf};
 
 use crate::map_name::MapName;
-use crate::mode::Mode;
 use crate::pattern::fill;
+use crate::sizes::Sizes;
 use crate::stopwatch::{nanoseconds_used, print_line};
 use bm_base::Shape;
 use bm_bufs::{Bufs, Placing};
+use std::alloc::Global;
 use std::io;
 use std::io::ErrorKind;
 use std::time::CpuClock;
@@ -30,10 +31,7 @@ fn place_row_at(
     shape: &Shape,
     first: u64,
 ) -> io::Result<u64>
-    requires nonsingular { IsNonsingular placing.now.a }
-    requires plus { placing.now.plus < 2 ^ placing.now.a.n }
-    requires size { placing.now.a.n ≡ shape.now.m }
-    requires width { placing.now.width ≡ shape.now.width }
+    requires placing { IsPlacingOf shape.now placing.now }
     requires inside { first + 2 ^ (shape.now.b + shape.now.d) ≤ 2 ^ shape.now.m }
     requires fits { FitsShape shape.now bufs.old }
     ensures fits { FitsShape shape.now bufs.new }
@@ -45,18 +43,16 @@ fn place_row_at(
     Ok(end.saturating_sub(start))
 }
 
-// Places the pattern in a load, a row at a time, and returns the nanoseconds.
-fn place_load(
+/// Places the pattern in a load, a row at a time, and returns the nanoseconds of the placing.
+pub fn place_load(
     rt: &impl CpuClock,
     bufs: &mut Bufs,
     placing: &Placing,
     shape: &Shape,
 ) -> io::Result<u64>
-    requires nonsingular { IsNonsingular placing.now.a }
-    requires plus { placing.now.plus < 2 ^ placing.now.a.n }
-    requires size { placing.now.a.n ≡ shape.now.m }
-    requires width { placing.now.width ≡ shape.now.width }
+    requires placing { IsPlacingOf shape.now placing.now }
     requires fits { FitsShape shape.now bufs.old }
+    ensures fits { FitsShape shape.now bufs.new }
 {
     let mut spent = 0u64;
     for r in 0..shape.load_stripes() {
@@ -66,46 +62,49 @@ fn place_load(
     Ok(spent)
 }
 
-// The shape of a load of its own, in rows of one block.
-fn shape_for(mode: Mode, width_bits: u8) -> io::Result<Shape>
+/// The shape of a load of its own, in rows of one block, for records of `2 ^ width_bits` bytes.
+pub fn shape_for(sizes: Sizes, width_bits: u8) -> io::Result<Shape>
     requires { width_bits ≤ 6 }
 {
-    let m = mode.load_bits() - width_bits;
-    let b = mode.row_bits() - width_bits;
+    let m = sizes.load_bits - width_bits;
+    let b = sizes.row_bits - width_bits;
     Shape::new(m, b, 0, m, 1 << width_bits).map_err(|_| io::Error::from(ErrorKind::InvalidInput))
 }
 
-// Places a load of records of `2 ^ width_bits` bytes, and prints its line.
-fn place_width(rt: &HostRuntime, mode: Mode, name: MapName, width_bits: u8) -> io::Result<()>
-    requires { width_bits ≤ 6 }
+/// The placing of a load by the map of a name.
+pub fn placing_for(name: MapName, shape: &Shape) -> Placing
+    ensures { IsPlacingOf shape.now result }
 {
-    let shape = shape_for(mode, width_bits)?;
     let map = name.map(shape.m());
-    let placing = Placing {
+    Placing {
         a: map.a,
         plus: map.c,
         width: shape.width(),
-    };
-    let mut bufs = Bufs::new(rt.alloc(), &shape).map_err(|_| io::Error::from(
-        ErrorKind::OutOfMemory,
-    ))?;
+    }
+}
+
+/// The buffers for a shape.
+pub fn buffers_for(alloc: Global, shape: &Shape) -> io::Result<Bufs>
+    ensures { IfOk result (FitsShape shape.now) }
+{
+    Bufs::new(alloc, shape).map_err(|_| io::Error::from(ErrorKind::OutOfMemory))
+}
+
+/// Places a load of records of `2 ^ width_bits` bytes, and prints its line.
+pub fn place(rt: &HostRuntime, sizes: Sizes, name: MapName, width_bits: u8) -> io::Result<()>
+    requires { width_bits ≤ 6 }
+{
+    let shape = shape_for(sizes, width_bits)?;
+    let placing = placing_for(name, &shape);
+    let mut bufs = buffers_for(rt.alloc(), &shape)?;
     let spent = place_load(rt, &mut bufs, &placing, &shape)?;
     print_line(
         rt,
-        mode,
-        "place",
-        &name,
-        usize::from(shape.width()),
+        sizes,
+        "stepped",
+        name,
+        shape.width(),
         bufs.load(),
         spent,
     )
-}
-
-/// Places loads of records of 1, 4, 8, 16 and 64 bytes, and prints a line for each.
-pub fn place_widths(rt: &HostRuntime, mode: Mode, name: MapName) -> io::Result<()> {
-    place_width(rt, mode, name, 0)?;
-    place_width(rt, mode, name, 2)?;
-    place_width(rt, mode, name, 3)?;
-    place_width(rt, mode, name, 4)?;
-    place_width(rt, mode, name, 6)
 }
