@@ -368,9 +368,29 @@ fn one_page_of_a_done_job_changed(rt: HostRuntime) -> Result<(), Fail> {
     Ok(())
 }
 
+/// The gate and the body of each slot.
+fn slots(gate: Body, body: Body, other_gate: Body, other_body: Body) -> [(u16, Body); 4] {
+    [
+        (513, gate),
+        (512, body),
+        (515, other_gate),
+        (514, other_body),
+    ]
+}
+
+/// The gate of pass 1, and this body in the first slot, which is open.
+fn first_done(body: Body) -> [(u16, Body); 4] {
+    [
+        (5, Body::Gate),
+        (513, Body::Gate),
+        (512, body),
+        (515, Body::Zeros),
+    ]
+}
+
 /// The slots' pages changed: which slot is counted, and which body is wrong.
 ///
-/// On one disk the job has three passes of four loads. `gate` is the gate of pass 1.
+/// On one disk the job has three passes of four loads.
 #[test]
 fn slots_of_an_open_job(rt: HostRuntime) -> Result<(), Fail> {
     let shape = Shape::new(4, 1, 0, 2, 1).ok().ok_or("shape")?;
@@ -380,105 +400,40 @@ fn slots_of_an_open_job(rt: HostRuntime) -> Result<(), Fail> {
     let zeros = Body::Zeros;
     let rows = [
         // no slot is open, whatever its body is
-        (
-            [(513u16, zeros), (515, zeros), (512, zeros), (514, zeros)],
-            at(0, 0, 2),
-        ),
-        (
-            [
-                (513, zeros),
-                (515, zeros),
-                (512, part(9, 9)),
-                (514, part(1, 3)),
-            ],
-            at(0, 0, 2),
-        ),
+        (slots(zeros, zeros, zeros, zeros), at(0, 0, 2)),
+        (slots(zeros, part(9, 9), zeros, part(1, 3)), at(0, 0, 2)),
         // one, or the other
-        (
-            [(513, gate), (515, zeros), (512, part(1, 1)), (514, zeros)],
-            at(0, 1, 0),
-        ),
-        (
-            [(513, zeros), (515, gate), (512, zeros), (514, part(1, 1))],
-            at(0, 1, 1),
-        ),
+        (slots(gate, part(1, 1), zeros, zeros), at(0, 1, 0)),
+        (slots(zeros, zeros, gate, part(1, 1)), at(0, 1, 1)),
         // both: the one with more loads, and the first where both have one number
-        (
-            [
-                (513, gate),
-                (515, gate),
-                (512, part(1, 1)),
-                (514, part(1, 1)),
-            ],
-            at(0, 1, 0),
-        ),
-        (
-            [
-                (513, gate),
-                (515, gate),
-                (512, part(1, 1)),
-                (514, part(1, 3)),
-            ],
-            at(0, 3, 1),
-        ),
-        (
-            [
-                (513, gate),
-                (515, gate),
-                (512, part(1, 3)),
-                (514, part(1, 2)),
-            ],
-            at(0, 3, 0),
-        ),
-        // a pass that is done counts no more
-        (
-            [(5, gate), (513, gate), (515, zeros), (512, part(1, 3))],
-            at(1, 0, 2),
-        ),
-        (
-            [(5, gate), (513, gate), (515, zeros), (512, part(2, 3))],
-            at(1, 3, 0),
-        ),
+        (slots(gate, part(1, 1), gate, part(1, 1)), at(0, 1, 0)),
+        (slots(gate, part(1, 1), gate, part(1, 3)), at(0, 3, 1)),
+        (slots(gate, part(1, 3), gate, part(1, 2)), at(0, 3, 0)),
         // a body that is none
+        (slots(gate, zeros, zeros, zeros), Said::Bad { page: 512 }),
+        (slots(zeros, zeros, gate, zeros), Said::Bad { page: 514 }),
+        (slots(gate, zeros, gate, zeros), Said::Bad { page: 512 }),
         (
-            [(513, gate), (515, zeros), (512, zeros), (514, zeros)],
-            Said::Bad { page: 512 },
-        ),
-        (
-            [(513, zeros), (515, gate), (512, zeros), (514, zeros)],
-            Said::Bad { page: 514 },
-        ),
-        (
-            [(513, gate), (515, gate), (512, zeros), (514, zeros)],
-            Said::Bad { page: 512 },
-        ),
-        (
-            [(513, gate), (515, zeros), (512, part(1, 4)), (514, zeros)],
+            slots(gate, part(1, 4), zeros, zeros),
             Said::Bad { page: 512 },
         ),
         // a pass after the one under way, or after the last
         (
-            [(513, gate), (515, zeros), (512, part(2, 1)), (514, zeros)],
+            slots(gate, part(2, 1), zeros, zeros),
             Said::Bad { page: 512 },
         ),
         (
-            [
-                (513, gate),
-                (515, gate),
-                (512, part(1, 1)),
-                (514, part(2, 1)),
-            ],
+            slots(gate, part(1, 1), gate, part(2, 1)),
             Said::Bad { page: 514 },
         ),
         (
-            [(513, gate), (515, zeros), (512, part(4, 1)), (514, zeros)],
+            slots(gate, part(4, 1), zeros, zeros),
             Said::Bad { page: 512 },
         ),
-        // a gate of a pass comes before the slots
-        (
-            [(7, gate), (513, gate), (512, zeros), (514, zeros)],
-            Said::Bad { page: 7 },
-        ),
+        // with the first pass done: its own count, which is no more, and the next one's
+        (first_done(part(1, 3)), at(1, 0, 2)),
+        (first_done(part(2, 3)), at(1, 3, 0)),
+        (first_done(part(3, 3)), Said::Bad { page: 512 }),
     ];
     for (changes, want) in rows {
         let (found, want) = said_after(rt.alloc(), &shape, steps, changes, want).ok_or("disks")?;
