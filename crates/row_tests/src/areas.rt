@@ -1,11 +1,24 @@
 //! Areas of a rack, written and read as one list of bytes.
-ghost use Rattle.std.specs.Prelude.{◌≡◌, IsTrue, Some};
+ghost use Rattle.std.specs.Prelude.{◌≡◌, ◌≢◌, IsTrue, Some};
 ghost use Rattle.bm_base.specs.Shape.{dims_of};
 
 use bm_base::{Area, Shape};
 use bm_rack::{Found, Rack};
 use bm_stripe::{read_load, write_load};
 use std::alloc::Global;
+
+/// The areas that pass number i, from 0, reads and writes.
+pub fn areas_of(i: u16) -> (Area, Area)
+    ensures { result.0 ≢ result.1 }
+{
+    if i == 0 {
+        (Area::Input, Area::One)
+    } else if i % 2 == 1 {
+        (Area::One, Area::Two)
+    } else {
+        (Area::Two, Area::One)
+    }
+}
 
 /// Makes the disks of a shape and attaches them.
 pub fn has_disks<R: Rack>(rack: &mut R, shape: &Shape) -> bool

@@ -20,7 +20,13 @@ mod job_rows;
 #[cfg(test)]
 mod pass_rows;
 #[cfg(test)]
+mod placing_rows;
+#[cfg(test)]
 mod plan_rows;
+#[cfg(test)]
+mod random_maps;
+#[cfg(test)]
+mod record_lists;
 #[cfg(test)]
 mod slates;
 #[cfg(test)]

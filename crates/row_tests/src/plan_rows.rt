@@ -1,9 +1,9 @@
 //! Plans of maps, run pass after pass over racks in memory.
-ghost use Rattle.std.specs.Prelude.{◌≡◌, ◌≢◌, Some};
+ghost use Rattle.std.specs.Prelude.{◌≡◌, Some};
 ghost use Rattle.bm_base.specs.Shape.{dims_of};
 ghost use Rattle.bm_bufs.specs.Bufs.{FitsShape};
 
-use crate::areas::{has_disks, read_area, write_area};
+use crate::areas::{areas_of, has_disks, read_area, write_area};
 use bm_base::{Area, Shape};
 use bm_bufs::Bufs;
 use bm_factor::{FactorError, factor};
@@ -18,19 +18,6 @@ use std::test::Fail;
 
 /// The bytes 0 to 15.
 const INPUT: [u8; 16] = [0, 1, 2, 3, 4, 5, 6, 7, 8, 9, 10, 11, 12, 13, 14, 15];
-
-/// The areas that pass number i, from 0, reads and writes.
-fn areas_of(i: u16) -> (Area, Area)
-    ensures { result.0 ≢ result.1 }
-{
-    if i == 0 {
-        (Area::Input, Area::One)
-    } else if i % 2 == 1 {
-        (Area::One, Area::Two)
-    } else {
-        (Area::Two, Area::One)
-    }
-}
 
 /// Does the passes of a plan in order, where no call fails.
 fn has_run<R: Rack>(rack: &mut R, shape: &Shape, plan: &Plan, bufs: &mut Bufs) -> bool
@@ -62,11 +49,7 @@ fn planned(alloc: Global, shape: &Shape, map: &Affine, input: &[u8]) -> Option<(
     if !has_run(&mut rack, shape, &plan, &mut bufs) {
         return None;
     }
-    let last = if plan.len() % 2 == 1 {
-        Area::One
-    } else {
-        Area::Two
-    };
+    let (last, _) = areas_of(plan.len());
     let bytes = read_area(alloc, &mut rack, shape, last)?;
     Some((plan.len(), bytes))
 }
