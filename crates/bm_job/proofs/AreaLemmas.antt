@@ -1,0 +1,59 @@
+-- The areas that passes read and write.
+use Rattle.std.proofs.Common.{◌≡◌, ◌≢◌, inl, inr, ℕ, ◌+◌, ◌%◌, ◌==◌, true, false, refl, sym, ◌∙◌, subst, arith}
+use Rattle.std.proofs.lemmas.Bool.{cases_eq}
+use Rattle.std.proofs.lemmas.Bool.Decides.{nat_tests}
+use Rattle.bm_base.specs.declared.shape.Shape.{Shape}
+use Rattle.bm_base.specs.declared.area.Area.TheVariants.{Input, One, Two}
+use Rattle.bm_base.specs.Area.{area_after}
+use Rattle.bm_base.specs.Contents.{RackUnit, block_unit, page_unit}
+use Rattle.bm_base.specs.Shape.{dims_of}
+use Rattle.bm_rack.specs.Image.{IsInputUnit}
+use Rattle.bm_stripe.specs.Units.{IsAreaUnit}
+
+-- tests that say yes and no
+yes : (a b : ℕ) → a ≡ b → (a == b) ≡ true
+yes a b h = grind (arith, nat_tests)
+
+no_test : (a b : ℕ) → a ≢ b → (a == b) ≡ false
+no_test a b h = grind (arith, nat_tests)
+
+-- after no pass, after an odd number of passes, and after an even one
+area_none : area_after 0 ≡ Input
+area_none = refl
+
+area_odd : (i : ℕ) → i % 2 ≡ 1 → area_after i ≡ One
+area_odd i odd = rw (no_test i 0 (λ e. omega (arith, e, odd)), yes (i % 2) 1 odd) refl
+
+area_even : (i : ℕ) → i ≢ 0 → i % 2 ≢ 1 → area_after i ≡ Two
+area_even i some even = rw (no_test i 0 some, no_test (i % 2) 1 even) refl
+
+one_input : ¬ (One ≡ Input)
+one_input e = cc
+
+two_input : ¬ (Two ≡ Input)
+two_input e = cc
+
+one_two : ¬ (One ≡ Two)
+one_two e = cc
+
+-- a pass writes another area than the input
+pub target_no_input : (done : ℕ) → area_after (done + 1) ≢ Input
+target_no_input done e = elim (cases_eq ((done + 1) % 2) 1) [
+  | inl odd ↦ one_input (sym (area_odd (done + 1) odd) ∙ e)
+  | inr even ↦ two_input (sym (area_even (done + 1) (λ z. omega (arith, z)) even) ∙ e)
+]
+
+-- and another than the one it reads
+pub areas_apart : (done : ℕ) → area_after done ≢ area_after (done + 1)
+areas_apart done e = elim (cases_eq ((done + 1) % 2) 1) [
+  | inl odd ↦ elim (cases_eq done 0) [
+    | inl none ↦ target_no_input done (sym e ∙ subst (λ (i : ℕ). area_after i ≡ Input) (sym none) area_none)
+    | inr some ↦ one_two (sym (area_odd (done + 1) odd) ∙ sym e ∙ area_even done some (λ z. omega (arith, z, odd)))
+  ]
+  | inr even ↦ one_two (sym (area_odd done (omega (arith, even))) ∙ e ∙ area_even (done + 1) (λ z. omega (arith, z)) even)
+]
+
+-- the blocks of the first third of a disk are those of the input
+pub input_unit : (s : Shape) (u : RackUnit) → IsInputUnit (dims_of s) u → IsAreaUnit s Input u
+input_unit s (page_unit page) is = is
+input_unit s (block_unit disk place) is = (omega arith, omega (arith, is))

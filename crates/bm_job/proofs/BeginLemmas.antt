@@ -1,0 +1,364 @@
+-- A job that is begun.
+use Rattle.std.proofs.Common.{Ok, Err, ◌≡◌, ◌≢◌, inl, inr, ℕ, ◌+◌, ◌*◌, ◌^◌, ◌<◌, ◌≤◌, Bool, false, IsTrue, List, length, take, slice_get, Option, Some, None, Result, IfOk, IfErr, IsErrAnd, IsOkUnless, refl, sym, ◌∙◌, ap, subst, arith}
+use Rattle.std.proofs.Math.Path.{subst₂}
+use Rattle.std.proofs.lemmas.Bool.{cases_lt}
+use Rattle.bm_base.specs.declared.dims.Dims.{Dims}
+use Rattle.bm_base.specs.declared.shape.Shape.{Shape}
+use Rattle.bm_base.specs.Area.{area_after}
+use Rattle.bm_base.specs.Contents.{Contents, RackUnit, block_unit, page_unit, page_at, HasSizes}
+use Rattle.bm_base.specs.Gate.{IsOpenGate, IsClosedGate}
+use Rattle.bm_base.specs.Records.{record_at}
+use Rattle.bm_base.specs.Shape.{dims_of}
+use Rattle.bm_gf2.specs.Affine.{affine_image}
+use Rattle.bm_forms.specs.declared.job.Job.{Job}
+use Rattle.bm_forms.specs.declared.pass_form.PassForm.{PassForm}
+use Rattle.bm_forms.specs.PassForm.{passed}
+use Rattle.bm_forms.specs.Plan.{all_passed}
+use Rattle.bm_rack.specs.RackView.{RackView, IsClean, IsWellFormed}
+use Rattle.bm_rack.specs.Image.{InEveryImage, IsInputUnit, SameInput}
+use Rattle.bm_rack.specs.Frames.{DirtiesOnly, RaisesCounts}
+use Rattle.bm_rack.proofs.FrameLemmas.{raised-zero}
+use Rattle.bm_pass.proofs.PassLemmas.{image_below_records}
+use Rattle.bm_control.specs.declared.state.SlateState.{SlateState}
+use Rattle.bm_control.specs.declared.state.SlateState.TheVariants.{Loaded}
+use Rattle.bm_control.specs.declared.state.ControlError.{ControlError}
+use Rattle.bm_control.specs.declared.state.ControlError.TheVariants as control
+use Rattle.bm_control.specs.Bodies.{loads_of, IsJobBody}
+use Rattle.bm_control.specs.Consistent.{slot_body, input_of, GatesAre, LoadsMoved, SlotStands, JobStands, IsConsistent}
+use Rattle.bm_control.specs.Moments.{JobIsWritten}
+use Rattle.bm_control.specs.PageCalls.{IsStartPage, MakesPageCalls, ReadsPages}
+use Rattle.bm_control.specs.Progress.{IsGone}
+use Rattle.bm_control.specs.Sound.{IsSound}
+use Rattle.bm_control.specs.State.{StateAnswer, HasPart, IsBadAt, IsBadSlotPage, IsBadProgress, IsBadJobPage, IsFirstBad}
+use Rattle.bm_control.specs.StateCalls.{StatePages}
+use Rattle.bm_control.proofs.EqualLemmas.{one_outcome, error_is, none_some}
+use Rattle.bm_control.proofs.StateLemmas.{part_unique}
+use Rattle.bm_job.specs.declared.answers.RunError.{RunError}
+use Rattle.bm_job.specs.declared.answers.RunError.TheVariants as run
+use Rattle.bm_job.specs.declared.machine.Machine.{Machine}
+use Rattle.bm_job.specs.Errors.{run_error}
+use Rattle.bm_job.specs.Follows.{AreMoved, IsHeld, Follows, loads_moved}
+use Rattle.bm_job.specs.Begins.{IsLoadedAlone, LookAnswer, LookCounts, LookPages, ResumeAnswer, BeginAnswer, BeginCalls, IsFresh, IsStart, state_of}
+use Rattle.bm_job.proofs.HeldLemmas.{stands_at}
+use Rattle.bm_job.proofs.StepLemmas.{element, moved_by, moved_none, next_passed}
+use Rattle.bm_job.proofs.UniqueLemmas.{passes_unique, every_unique, done_unique}
+
+-- a test of a fact said no
+pub not_same : (test : Bool) (fact : Type 0) → (fact → IsTrue test) → test ≡ false → ¬ fact
+not_same test fact holds says is = one_outcome test (holds is) says
+
+-- a page of a clean rack is the same in every image
+pub clean_page : (P : List ℕ → Type 0) (k : ℕ) (v : RackView) → IsClean v → P (page_at v.contents k) → InEveryImage (λ c. P (page_at c k)) v
+clean_page P k v clean holds dims image stands i = subst P (sym (i.clean (page_unit k) (clean (page_unit k)))) holds
+
+-- a start writes no page of the load
+pub start_apart : (passes k : ℕ) (parts : Type 0) → k < 2 → ¬ IsStartPage passes parts (page_unit k)
+start_apart passes k parts h (inl is) = omega (arith, is, h)
+start_apart passes k parts h (inr (inl is)) = omega (arith, is, h)
+start_apart passes k parts h (inr (inr (inl is))) = (let a = is.0 in omega (arith, a, h))
+start_apart passes k parts h (inr (inr (inr is))) = elim is.1 [
+  | inl e ↦ omega (arith, e, h)
+  | inr e ↦ omega (arith, e, h)
+]
+
+-- a job that was opened
+pub started_held : (s : Shape) (job : Job) (forms : List PassForm) (passes every : ℕ) (old new : RackView) → passes ≡ length forms → old.attached ≡ Some (dims_of s)
+    → IsLoadedAlone s old.contents → DirtiesOnly (IsStartPage (length forms) (every < loads_of s)) old new → IsClean new → IsOpenGate (page_at new.contents 3)
+    → JobIsWritten s job forms every new.contents → IsSound new → IsHeld s job passes 0 every 0 2 new
+started_held s job forms passes every old new count attached loaded w clean gate written sound = record {
+  sound = sound;
+  attached = w.attached ∙ attached;
+  outside = λ u not. clean u;
+  durable = λ form next x below. clean _;
+  load_body = w.contents (page_unit 0) (start_apart (length forms) 0 (every < loads_of s) (omega arith)) ∙ loaded.load_body;
+  load_gate = w.contents (page_unit 1) (start_apart (length forms) 1 (every < loads_of s) (omega arith)) ∙ loaded.load_gate;
+  job_gate = gate;
+  body = subst (λ (p : ℕ). IsJobBody s (page_at new.contents 2) job p every) (sym count) written.body;
+  gates = record {
+    few = omega arith;
+    opened = λ k h. absurd (omega (arith, h));
+    closed = λ k from h. written.gates k (omega (arith, h, count));
+  };
+  counted = record {
+    none = λ whole. refl;
+    range = omega arith;
+    nothing = λ is. refl;
+    counts = λ less. absurd (omega (arith, less));
+    most = λ less other loads h c. absurd (written.slots less other h c.opened);
+    first = λ is. absurd (omega (arith, is));
+  };
+}
+
+-- a refusal of the control file as one of a begin
+error_told : (v : Contents) (e : ControlError) → StateAnswer v (Err e) → LookAnswer v (Err (run_error e))
+error_told v control.Failed answer = tt
+error_told v (control.BadPage page) answer = answer
+
+pub look_error : (v w : Contents) (e : ControlError) (r : Result SlateState RunError) → w ≡ v → IsErrAnd r (λ made. made ≡ run_error e) → StateAnswer w (Err e)
+    → LookAnswer v r
+look_error v w e r same is answer =
+    subst (LookAnswer v) (sym (error_is r (run_error e) is)) (error_told v e (subst (λ (c : Contents). StateAnswer c (Err e)) same answer))
+
+-- a sync and pages read after it
+pub sync_read : {tells_stands tells_contents : Bool} (most pages : ℕ) (a b c : RackView) → IsWellFormed tells_stands tells_contents a → RaisesCounts 0 0 1 a b
+    → ReadsPages 0 most b c → most ≤ pages → MakesPageCalls ⊥ pages 1 a c
+sync_read most pages a b c well x y few =
+    let fp = well.pages in
+    let fs = well.syncs in
+    record {
+      done = λ e. absurd e;
+      moves = y.moves ∙ x.moves ∙ raised-zero a.moves well.moves;
+      pages_low = omega (arith, x.pages, y.low, fp);
+      pages_high = omega (arith, x.pages, y.high, few);
+      syncs_low = omega (arith, x.syncs, y.syncs, fs);
+      syncs_high = omega (arith, x.syncs, y.syncs);
+    }
+
+pub look_pages : {tells_stands tells_contents : Bool} (v w : Contents) (a b c : RackView) → w ≡ v → IsWellFormed tells_stands tells_contents a
+    → RaisesCounts 0 0 1 a b → StatePages w b c → LookPages v a c
+look_pages v w a b c same well x z =
+    let y = subst (λ (d : Contents). StatePages d b c) same z in record {
+      idle = λ closed. sync_read 3 3 a b c well x (y.idle closed) (omega arith);
+      bare = λ none. sync_read 4 4 a b c well x (y.bare none) (omega arith);
+      most = λ s job p every load body. sync_read (8 + 2 * p) (8 + 2 * p) a b c well x (y.most s job p every load body) (omega arith);
+    }
+
+-- more calls may be made
+pub calls_wider : (p s p' s' : ℕ) (a b : RackView) → p ≤ p' → s ≤ s' → MakesPageCalls ⊥ p s a b → MakesPageCalls ⊥ p' s' a b
+calls_wider p s p' s' a b pages syncs x = record {
+  done = λ e. absurd e;
+  moves = x.moves;
+  pages_low = x.pages_low;
+  pages_high = omega (arith, x.pages_high, pages);
+  syncs_low = x.syncs_low;
+  syncs_high = omega (arith, x.syncs_high, syncs);
+}
+
+-- calls after others
+pub calls_then : (p s p' s' p'' s'' : ℕ) (a b c : RackView) → p + p' ≤ p'' → s + s' ≤ s'' → MakesPageCalls ⊥ p s a b → MakesPageCalls ⊥ p' s' b c → MakesPageCalls ⊥ p'' s'' a c
+calls_then p s p' s' p'' s'' a b c pages syncs x y = record {
+  done = λ e. absurd e;
+  moves = y.moves ∙ x.moves;
+  pages_low = omega (arith, x.pages_low, y.pages_low);
+  pages_high = omega (arith, x.pages_high, y.pages_high, pages);
+  syncs_low = omega (arith, x.syncs_low, y.syncs_low);
+  syncs_high = omega (arith, x.syncs_high, y.syncs_high, syncs);
+}
+
+-- the calls of a begin that starts nothing
+pub begin_looked : (v : Contents) (passes : ℕ) (a b : RackView) → LookPages v a b → BeginCalls v passes a b
+begin_looked v passes a b x = record {
+  none = λ closed. calls_wider 3 1 (7 + 2 * passes) 3 a b (omega arith) (omega arith) (x.idle closed);
+  bare = λ none. calls_wider 4 1 (7 + 2 * passes) 3 a b (omega arith) (omega arith) (x.bare none);
+  opened = λ gate s job p every load body. x.most s job p every load body;
+}
+
+-- and of one that starts a job
+pub begin_started : (v : Contents) (passes : ℕ) (a b c : RackView) → IsClosedGate (page_at v 3) → LookPages v a b → MakesPageCalls ⊥ (4 + 2 * passes) 2 b c
+    → BeginCalls v passes a c
+begin_started v passes a b c closed x y = record {
+  none = λ _. all;
+  bare = λ _. all;
+  opened = λ gate. absurd (closed gate);
+}
+  where
+    all : MakesPageCalls ⊥ (7 + 2 * passes) 3 a c
+    all = calls_then 3 1 (4 + 2 * passes) 2 (7 + 2 * passes) 3 a b c (omega arith) (omega arith) (x.idle closed) y
+
+-- a slot of consistent contents has a body
+has_part : (s : Shape) (v : Contents) (j : JobStands s v) (passes done slot : ℕ) → length j.forms ≡ passes → j.done ≡ done → SlotStands s v j.forms j.done slot
+    → HasPart s v passes done slot
+has_part s v j passes done slot count now t =
+    let known = t.known in
+    let soon = t.soon in
+    record { pass = t.pass; loads = t.loads; body = t.body; known = omega (arith, known, count); soon = omega (arith, soon, now) }
+
+-- no page of a pass is wrong
+no_bad_at : (s : Shape) (v : Contents) (j : JobStands s v) (k done page : ℕ) → k < length j.forms → GatesAre v k done → ¬ IsBadAt s v k done page
+no_bad_at s v j k done page below gates (inl bad) = (let next = element j.forms k below in bad.1 next.0 (j.bodies k next.0 next.1))
+no_bad_at s v j k done page below gates (inr bad) = elim (cases_lt k j.done) [
+  | inl less ↦ (let late = bad.1 in gates.closed done (omega arith) late (j.gates.opened done (omega (arith, late, less))))
+  | inr more ↦ j.gates.closed k more below bad.2
+]
+
+-- nor one of a slot
+no_bad_slot : (s : Shape) (v : Contents) (j : JobStands s v) (passes done page : ℕ) → length j.forms ≡ passes → j.done ≡ done → j.every < loads_of s
+    → ¬ IsBadSlotPage s v passes done page
+no_bad_slot s v j passes done page count now less (inl bad) = bad.1.1 (has_part s v j passes done 0 count now (j.slots less 0 (omega arith) bad.1.0))
+no_bad_slot s v j passes done page count now less (inr bad) = bad.1.1 (has_part s v j passes done 1 count now (j.slots less 1 (omega arith) bad.1.0))
+
+no_bad_job : (s : Shape) (v : Contents) (j : JobStands s v) (page : ℕ) → ¬ IsBadJobPage s v page
+no_bad_job s v j page (inl bad) = bad.1 j.job (length j.forms) j.every j.body
+no_bad_job s v j page (inr b) =
+    let count : length j.forms ≡ b.passes = passes_unique s (page_at v 2) j.job b.job (length j.forms) b.passes j.every b.every j.body b.body in
+    let same : j.every ≡ b.every = every_unique s (page_at v 2) j.job b.job (length j.forms) b.passes j.every b.every j.body b.body in
+    behind b.passes b.every count same b.bad
+  where
+    behind : (passes every : ℕ) → length j.forms ≡ passes → j.every ≡ every → ¬ IsBadProgress s v passes every page
+    behind passes every count same (inl bad) =
+        (let below = bad.below in no_bad_at s v j bad.k bad.done page (omega (arith, below, count)) bad.before.gates bad.bad)
+    behind passes every count same (inr bad) =
+        let less = bad.0 in
+        let done = bad.1.0 in
+        no_bad_slot s v j passes done page count (done_unique v passes j.done done (subst (λ (p : ℕ). GatesAre v p j.done) count j.gates) bad.1.1.gates)
+        (omega (arith, less, same)) bad.1.2
+
+-- consistent contents have no wrong page
+pub no_bad_page : (dims : Dims) (v : Contents) (page : ℕ) → IsConsistent dims v → ¬ IsFirstBad v page
+no_bad_page dims v page c (inl bad) = (let l = c.loaded bad.1 in bad.2 l.shape l.body)
+no_bad_page dims v page c (inr bad) = no_bad_job bad.0 v (c.job bad.1.job_gate bad.0 bad.1.load_body) page bad.2
+
+-- the loads that an open slot counts of the pass under way are moved
+slot_moved : (s : Shape) (v : Contents) (j : JobStands s v) (slot part : ℕ) (t : SlotStands s v j.forms j.done slot) → t.pass ≡ j.done + 1 → t.loads ≡ part
+    → AreMoved s j.done part v
+slot_moved s v j slot part t now loads form next =
+    let known = t.known in
+    let below : j.done < length j.forms = omega (arith, now, known) in
+    let found = element j.forms j.done below in
+    moved_by s j.done part v found.0 form (record_at v s (area_after (j.done + 1))) (record_at v s (area_after j.done)) (j.bodies j.done found.0 found.1) next
+    (subst₂ (λ (p l : ℕ). LoadsMoved s found.0 l (record_at v s (area_after p)) (passed found.0 (record_at v s (area_after j.done)))) now loads
+    (λ x inside. slot_record s v j slot t found.0 now found.1 below x inside))
+  where
+    slot_record : (s : Shape) (v : Contents) (j : JobStands s v) (slot : ℕ) (t : SlotStands s v j.forms j.done slot) (form : PassForm) → t.pass ≡ j.done + 1
+        → slice_get j.forms j.done ≡ Some form → j.done < length j.forms → (x : ℕ) → x < t.loads * 2 ^ s.m
+        → record_at v s (area_after t.pass) (affine_image form.map.map x) ≡ passed form (record_at v s (area_after j.done)) (affine_image form.map.map x)
+    slot_record s v j slot t form now is below x inside =
+        t.moved now form is x inside
+        ∙ ap (λ (p : ℕ). all_passed (take p j.forms) (input_of v s) (affine_image form.map.map x)) now
+        ∙ sym (next_passed s v j form below is (affine_image form.map.map x) (image_below_records s form x (j.bodies j.done form is).of_shape))
+
+-- the counted loads are moved
+counted_moved : (s : Shape) (job : Job) (passes done every part slot : ℕ) (v : RackView) → v.stands ≡ Some (dims_of s) → HasSizes (dims_of s) v.contents
+    → IsHeld s job passes done every part slot v → AreMoved s done part v.contents
+counted_moved s job passes done every part slot v stands sizes held = elim (cases_lt slot 2) [
+  | inl h ↦ by_slot h
+  | inr two ↦ (let range = held.counted.range in let zero : part ≡ 0 = held.counted.nothing (omega (arith, two, range)) in
+      subst (λ (p : ℕ). AreMoved s done p v.contents) (sym zero) (moved_none s done v.contents))
+]
+  where
+    by_slot : slot < 2 → AreMoved s done part v.contents
+    by_slot h =
+        let at = stands_at s job passes done every part slot v stands sizes held in
+        let c = held.counted.counts h in
+        let most = held.body.fits.every_few in
+        let less : at.job.every < loads_of s = elim (cases_lt every (loads_of s)) [
+          | inl less ↦ (let e = at.every_is in omega (arith, less, e))
+          | inr more ↦ (let two = held.counted.none (omega (arith, more, most)) in absurd (omega (arith, two, h)))
+        ] in
+        let t = at.job.slots less slot h c.opened in
+        let both = part_unique s (page_at v.contents (slot_body slot)) t.pass t.loads (done + 1) part t.body c.body in
+        let pass_is = both.0 in
+        let now = at.done_is in
+        subst (λ (d : ℕ). AreMoved s d part v.contents) at.done_is (slot_moved s v.contents at.job slot part t (omega (arith, pass_is, now)) both.1)
+
+-- a machine that goes on with an open job
+pub resumed_follows : (s : Shape) (job : Job) (m : Machine) (v : RackView) → v.stands ≡ Some (dims_of s) → HasSizes (dims_of s) v.contents → v.attached ≡ Some (dims_of s)
+    → IsSound v → IsClean v → IsFresh s job m → StateAnswer v.contents (Ok (state_of m)) → Follows m v
+resumed_follows s job m v stands sizes attached sound clean fresh told =
+    let held : IsHeld m.shape m.job m.passes m.done m.every m.part m.slot v = record {
+      sound = sound;
+      attached = subst (λ (t : Shape). v.attached ≡ Some (dims_of t)) (sym fresh.shape) attached;
+      outside = λ u not. clean u;
+      durable = λ form next x below. clean _;
+      load_body = told.0.load_body;
+      load_gate = told.0.load_gate;
+      job_gate = told.0.job_gate;
+      body = told.1.body;
+      gates = told.1.stand.gates;
+      counted = told.1.counted;
+    } in
+    record {
+      held = held;
+      form = λ form is. absurd (none_some form (sym fresh.form ∙ is));
+      moved = subst (λ (l : ℕ). AreMoved m.shape m.done l v.contents) (sym fresh.load)
+          (counted_moved m.shape m.job m.passes m.done m.every m.part m.slot v (subst (λ (t : Shape). v.stands ≡ Some (dims_of t)) (sym fresh.shape) stands)
+          (subst (λ (t : Shape). HasSizes (dims_of t) v.contents) (sym fresh.shape) sizes) held);
+    }
+
+-- its progress
+pub resumed_gone : (s : Shape) (job : Job) (m : Machine) (v : Contents) → IsFresh s job m → StateAnswer v (Ok (state_of m)) → IsGone v (loads_moved m)
+resumed_gone s job m v fresh told = inr (record {
+  shape = m.shape;
+  job = m.job;
+  passes = m.passes;
+  every = m.every;
+  done = m.done;
+  part = m.part;
+  slot = m.slot;
+  opened = told.0.job_gate;
+  load = told.0.load_body;
+  body = told.1.body;
+  gates = told.1.stand.gates;
+  counted = told.1.counted;
+  sum = ap (λ (l : ℕ). m.done * loads_of m.shape + l) fresh.load;
+})
+
+-- a refusal of a wrong page names the first one
+err_injective : {T E : Type 0} (e f : E) → ◌≡◌ {A = Result T E} (Err e) (Err f) → e ≡ f
+err_injective e f is = cc
+
+pub bad_of : {T : Type 0} (v : Contents) (e : RunError) (r : Result T RunError) (page : ℕ) → IsErrAnd r (λ made. made ≡ e) → r ≡ Err (run.BadPage page)
+    → LookAnswer v (Err e) → IsFirstBad v page
+bad_of v e r page is bad answer =
+    subst (λ (x : RunError). LookAnswer v (Err x)) (err_injective e (run.BadPage page) (sym (error_is r e is) ∙ bad)) answer
+
+-- why a job can't be gone on with
+refused : (s : Shape) (job : Job) (passes every : ℕ) (v : Contents) (state : SlateState) (e : RunError) → StateAnswer v (Ok state) → ResumeAnswer s job state (Err e)
+    → BeginAnswer s job passes every v (Err e)
+refused s job passes every v state run.Failed told answer = tt
+refused s job passes every v state run.NotLoaded told answer = subst (λ (x : SlateState). StateAnswer v (Ok x)) answer told
+refused s job passes every v state run.OtherShape told answer = (state, told, answer)
+refused s job passes every v state run.OtherJob told answer = (state, told, answer.0, answer.1)
+refused s job passes every v state (run.BadPage page) told answer = absurd answer
+
+pub refused_by : (s : Shape) (job : Job) (passes every : ℕ) (v : Contents) (state : SlateState) (e : RunError) (r : Result Machine RunError) → IsErrAnd r (λ made. made ≡ e)
+    → StateAnswer v (Ok state) → ResumeAnswer s job state (Err e) → BeginAnswer s job passes every v r
+refused_by s job passes every v state e r is told answer =
+    subst (BeginAnswer s job passes every v) (sym (error_is r e is)) (refused s job passes every v state e told answer)
+
+-- what is known of a state that is gone on with
+pub resumed_of : (s : Shape) (job : Job) (state : SlateState) (o : Option Machine) (m : Machine) → o ≡ Some m → ResumeAnswer s job state (Ok o)
+    → IsFresh s job m × (state ≡ state_of m)
+resumed_of s job state o m is answer = subst (λ (x : Option Machine). ResumeAnswer s job state (Ok x)) is answer
+
+-- and of one in which the job is to be opened
+pub loaded_of : (s : Shape) (job : Job) (state : SlateState) (o : Option Machine) → o ≡ None → ResumeAnswer s job state (Ok o) → state ≡ Loaded s
+loaded_of s job state o is answer = subst (λ (x : Option Machine). ResumeAnswer s job state (Ok x)) is answer
+
+-- a state that was told, of contents that are the same
+pub told_of : (v w : Contents) (state other : SlateState) → w ≡ v → state ≡ other → StateAnswer v (Ok state) → StateAnswer w (Ok other)
+told_of v w state other same is told =
+    subst (λ (c : Contents). StateAnswer c (Ok other)) (sym same) (subst (λ (x : SlateState). StateAnswer v (Ok x)) is told)
+
+pub alone_of : (s : Shape) (v : Contents) → StateAnswer v (Ok (Loaded s)) → IsLoadedAlone s v
+alone_of s v told = record { load_gate = told.0; load_body = told.1; job_gate = told.2 }
+
+-- a refusal but `Failed` of a call that has none
+pub kept_unless : {T : Type 0} (r : Result T RunError) (P : Type 0) → IsOkUnless r run.Failed → IfErr r (λ e. e ≢ run.Failed → P)
+kept_unless (Ok x) P failed = tt
+kept_unless (Err e) P failed = λ other. absurd (other failed)
+
+-- the calls of a begin that opened a job, by the machine
+pub counts_started : (passes every : ℕ) (a b c : RackView) (r : Result Machine RunError) → MakesPageCalls ⊥ 3 1 a b → MakesPageCalls ⊥ (4 + 2 * passes) 2 b c
+    → IfOk r (λ m. IsStart passes every m) → IfOk r (λ m. MakesPageCalls ⊥ (8 + 2 * m.passes) 3 a c)
+counts_started passes every a b c (Ok m) x y start =
+    let same = start.passes_are in
+    calls_then 3 1 (4 + 2 * passes) 2 (8 + 2 * m.passes) 3 a b c (omega (arith, same)) (omega arith) x y
+counts_started passes every a b c (Err e) x y start = tt
+
+pub counts_loaded : (s : Shape) (state : SlateState) (a b : RackView) → state ≡ Loaded s → LookCounts state a b → MakesPageCalls ⊥ 3 1 a b
+counts_loaded s state a b is x = subst (λ (t : SlateState). LookCounts t a b) is x
+
+-- a start leaves the input
+pub start_input : (passes : ℕ) (parts : Type 0) (dims : Dims) (old new : RackView) → DirtiesOnly (IsStartPage passes parts) old new → SameInput dims old new
+start_input passes parts dims old new w = record {
+  contents = λ u input. w.contents u (apart u input);
+  dirty = λ u input clean. w.dirty u (apart u input) clean;
+}
+  where
+    apart : (u : RackUnit) → IsInputUnit dims u → ¬ IsStartPage passes parts u
+    apart (page_unit k) input is = input
+    apart (block_unit disk place) input (inl is) = is
+    apart (block_unit disk place) input (inr (inl is)) = is
+    apart (block_unit disk place) input (inr (inr (inl is))) = is
+    apart (block_unit disk place) input (inr (inr (inr is))) = is.1

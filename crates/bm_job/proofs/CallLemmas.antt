@@ -1,0 +1,80 @@
+-- Calls of a rack as those of a turn.
+use Rattle.std.proofs.Common.{◌≡◌, ℕ, ◌+◌, Bool, Result, Ok, Err, IsOk, subst, arith}
+use Rattle.bm_base.specs.declared.fault.Failed.{Failed}
+use Rattle.bm_base.specs.Contents.{RackUnit}
+use Rattle.bm_rack.specs.RackView.{RackView, IsWellFormed}
+use Rattle.bm_rack.specs.Frames.{SameState, DirtiesOnly, Keeps, HasCause, RaisesCounts, MakesMoves, RackCall}
+use Rattle.bm_rack.proofs.FrameLemmas.{ChangesOnly-same, DirtiesOnly-wider, DirtiesOnly-changes, DirtiesOnly-trans, Keeps-trans, HasCause-later}
+use Rattle.bm_control.specs.PageCalls.{MakesPageCalls, IsSlotPage}
+use Rattle.bm_job.specs.Turns.{MakesCalls}
+
+-- an answer is no refusal
+pub no_refusal : {T E : Type 0} (x : T) (e : E) → ¬ (◌≡◌ {A = Result T E} (Ok x) (Err e))
+no_refusal x e is = cc
+
+-- a call whose failures are among those of another
+pub cause_of : (failed other : Type 0) (old new : RackView) → (other → failed) → HasCause failed old new → HasCause other old new
+cause_of failed other old new f x = record { rose = λ e. x.rose (f e); sure = λ h k e. x.sure h k (f e) }
+
+pub call_of : (P Q : RackUnit → Type 0) (failed other : Type 0) (old new : RackView) → ((u : RackUnit) → P u → Q u) → (other → failed)
+    → RackCall P failed old new → RackCall Q other old new
+call_of P Q failed other old new wider f x = record {
+  frame = DirtiesOnly-wider P Q old new wider x.frame;
+  keeps = x.keeps;
+  cause = cause_of failed other old new f x.cause;
+}
+
+-- a slot's pages by the slot's other name
+pub slot_call : (free at : ℕ) (failed other : Type 0) (old new : RackView) → free ≡ at → (other → failed) → RackCall (IsSlotPage free) failed old new
+    → RackCall (IsSlotPage at) other old new
+slot_call free at failed other old new same f x =
+    subst (λ (k : ℕ). RackCall (IsSlotPage k) other old new) same (call_of (IsSlotPage free) (IsSlotPage free) failed other old new (λ u is. is) f x)
+
+-- a call after others that changed less
+pub call_then : (P Q S : RackUnit → Type 0) (failed other : Type 0) (a b c : RackView) → ((u : RackUnit) → P u → S u) → ((u : RackUnit) → Q u → S u)
+    → (other → failed) → DirtiesOnly P a b → Keeps a b → RackCall Q failed b c → RackCall S other a c
+call_then P Q S failed other a b c first second f w keeps x = record {
+  frame = DirtiesOnly-trans S a b c (DirtiesOnly-wider P S a b first w) (DirtiesOnly-wider Q S b c second x.frame);
+  keeps = Keeps-trans a b c keeps x.keeps;
+  cause = cause_of failed other a c f (HasCause-later failed a b c keeps x.cause);
+}
+
+-- a call that changed nothing
+pub quiet : (a b : RackView) → SameState a b → DirtiesOnly (λ u. ⊥) a b
+quiet a b s = DirtiesOnly-changes (λ u. ⊥) a b (ChangesOnly-same (λ u. ⊥) a b s)
+
+-- a turn that ended while its load was moved
+pub calls_failed : {tells_stands tells_contents : Bool} {T : Type 0} (succeeds : Type 0) (rows read pages syncs : ℕ) (a b c : RackView) (result : Result T Failed)
+    → IsWellFormed tells_stands tells_contents a → ¬ succeeds → RaisesCounts 0 read 0 a b → MakesMoves rows b c result → MakesCalls succeeds rows (read + pages) syncs a c
+calls_failed succeeds rows read pages syncs a b c result well fails x y =
+    let fm = well.moves in
+    let fp = well.pages in
+    let fs = well.syncs in
+    record {
+      done = λ ok. absurd (fails ok);
+      moves_low = omega (arith, x.moves, y.low, fm);
+      moves_high = omega (arith, x.moves, y.high, fm);
+      pages_low = omega (arith, x.pages, y.pages, fp);
+      pages_high = omega (arith, x.pages, y.pages);
+      syncs_low = omega (arith, x.syncs, y.syncs, fs);
+      syncs_high = omega (arith, x.syncs, y.syncs);
+    }
+
+-- a turn whose load was moved
+pub calls_all : {tells_stands tells_contents : Bool} {T : Type 0} (succeeds : Type 0) (rows read pages syncs : ℕ) (a b c d : RackView) (result : Result T Failed)
+    → IsWellFormed tells_stands tells_contents a → IsOk result → RaisesCounts 0 read 0 a b → MakesMoves rows b c result → MakesPageCalls ⊥ pages syncs c d
+    → MakesCalls succeeds rows (read + pages) syncs a d
+calls_all succeeds rows read pages syncs a b c d result well ok x y z =
+    let fm = well.moves in
+    let fp = well.pages in
+    let fs = well.syncs in
+    let made = (y.done ok).moves in
+    record {
+      done = λ _. (let e = z.moves in omega (arith, x.moves, made, e, fm));
+      moves_low = (let e = z.moves in omega (arith, x.moves, y.low, e, fm));
+      moves_high = (let e = z.moves in omega (arith, x.moves, y.high, e, fm));
+      pages_low = omega (arith, x.pages, y.pages, z.pages_low, fp);
+      pages_high = omega (arith, x.pages, y.pages, z.pages_high);
+      syncs_low = omega (arith, x.syncs, y.syncs, z.syncs_low, fs);
+      syncs_high = omega (arith, x.syncs, y.syncs, z.syncs_high);
+    }

@@ -1,0 +1,12 @@
+pub mod RangeLemmas
+pub mod CallLemmas
+pub mod AreaLemmas
+pub mod UniqueLemmas
+pub mod HeldLemmas
+pub mod StepLemmas
+pub mod TurnLemmas
+pub mod BeginLemmas
+pub mod DoneLemmas
+pub mod PaceLemmas
+pub mod RunLemmas
+pub mod EndLemmas

@@ -1,0 +1,313 @@
+-- A run from its first turn to its last one.
+use Rattle.std.proofs.Common.{◌≡◌, ◌⊎◌, inl, inr, ℕ, ◌+◌, ◌-◌, ◌*◌, ◌%◌, ◌^◌, ◌<◌, ◌≤◌, Bool, IsTrue, List, refl, sym, ◌∙◌, ap, subst, arith}
+use Rattle.std.proofs.lemmas.Bool.{cases_eq}
+use Rattle.std.proofs.Math.Nat.{mul-le-mul_left, mul-le-mul_right}
+use Rattle.std.proofs.Math.Pow.{pow_mono}
+use Rattle.bm_base.specs.declared.shape.Shape.{Shape}
+use Rattle.bm_base.specs.declared.area.Area.{Area}
+use Rattle.bm_base.specs.declared.area.Area.TheVariants.{One, Two}
+use Rattle.bm_base.specs.Area.{area_after}
+use Rattle.bm_base.specs.Contents.{RackUnit, block_unit, page_unit, page_at}
+use Rattle.bm_base.specs.Count.{raised}
+use Rattle.bm_base.specs.Shape.{dims_of, stripes, load_stripes}
+use Rattle.bm_rack.specs.RackView.{RackView, IsWellFormed}
+use Rattle.bm_rack.specs.Image.{SameInput}
+use Rattle.bm_rack.specs.Frames.{DirtiesOnly, Keeps, RackCall}
+use Rattle.bm_rack.proofs.FrameLemmas.{DirtiesOnly-wider, DirtiesOnly-trans, Keeps-refl, Keeps-trans, HasCause-later, raised-zero}
+use Rattle.bm_pass.proofs.PassLemmas.{rows_of_pass}
+use Rattle.bm_stripe.specs.Units.{IsAreaUnit}
+use Rattle.bm_control.specs.Bodies.{loads_of, IsPassBody}
+use Rattle.bm_control.specs.Consistent.{pass_body}
+use Rattle.bm_control.specs.PageCalls.{IsSlotPage}
+use Rattle.bm_job.specs.declared.machine.Machine.{Machine}
+use Rattle.bm_job.specs.Follows.{Follows, IsNext, loads_moved, loads_counted}
+use Rattle.bm_job.specs.Turns.{SameJob, IsNextOf, IsTurnUnit, IsBadBody, MakesCalls, form_pages, durable_pages, durable_syncs}
+use Rattle.bm_job.specs.Runs.{IsProgressPage, IsWorkUnit, turn_pages, turn_syncs, loads_left, load_rows, IsBadPass, IsReached}
+use Rattle.bm_job.proofs.RangeLemmas.{few_passes}
+use Rattle.bm_job.proofs.PaceLemmas.{yes, no_test, pages_spent, syncs_spent, turn_pages_few, turn_syncs_few, turn_pages_paid, turn_syncs_paid, end_pages_few, end_syncs_few, counted_grows, load_left, loads_all, moved_near}
+
+-- ---- what is written
+
+-- a pass writes area One or Two
+target_areas : (done : ℕ) → (area_after (done + 1) ≡ One) ⊎ (area_after (done + 1) ≡ Two)
+target_areas done = elim (cases_eq ((done + 1) % 2) 1) [
+  | inl odd ↦ inl (rw (no_test (done + 1) 0 (λ z. omega (arith, z)), yes ((done + 1) % 2) 1 odd) refl)
+  | inr even ↦ inr (rw (no_test (done + 1) 0 (λ z. omega (arith, z)), no_test ((done + 1) % 2) 1 even) refl)
+]
+
+-- a slot's page shows progress
+slot_progress : (slot : ℕ) (u : RackUnit) → IsSlotPage slot u → IsProgressPage u
+slot_progress slot (block_unit disk place) is = is
+slot_progress slot (page_unit page) (inl is) = (omega (arith, is), inr (omega (arith, is)))
+slot_progress slot (page_unit page) (inr is) = (omega (arith, is), inr (omega (arith, is)))
+
+-- what a turn writes the turns of a job write
+pub turn_work : (m : Machine) (u : RackUnit) → IsTurnUnit m u → IsWorkUnit m.shape u
+turn_work m u (inl is) = elim (target_areas m.done) [
+  | inl one ↦ inl (subst (λ (a : Area). IsAreaUnit m.shape a u) one is)
+  | inr two ↦ inr (inl (subst (λ (a : Area). IsAreaUnit m.shape a u) two is))
+]
+turn_work m (block_unit disk place) (inr (inl is)) = absurd is
+turn_work m (page_unit page) (inr (inl is)) = inr (inr (omega (arith, is), inl (omega (arith, is))))
+turn_work m (block_unit disk place) (inr (inr is)) = absurd is
+turn_work m (page_unit page) (inr (inr is)) = inr (inr (slot_progress _ (page_unit page) is))
+
+-- no page before the first gate is written, nor a pass's body
+pub front_kept : (s : Shape) (page : ℕ) → page < 5 → ¬ IsWorkUnit s (page_unit page)
+front_kept s page early (inl is) = is
+front_kept s page early (inr (inl is)) = is
+front_kept s page early (inr (inr is)) = (let from = is.0 in omega (arith, early, from))
+
+pub body_kept : (s : Shape) (k : ℕ) → k < 254 → ¬ IsWorkUnit s (page_unit (pass_body k))
+body_kept s k few (inl is) = is
+body_kept s k few (inr (inl is)) = is
+body_kept s k few (inr (inr (from, inl odd))) = omega (arith, odd)
+body_kept s k few (inr (inr (from, inr late))) = omega (arith, late, few)
+
+-- ---- counts
+
+-- a count after two calls
+raised_both : (a b c k j total : ℕ) → b ≤ raised a k → c ≤ raised b j → k + j ≤ total → c ≤ raised a total
+raised_both a b c k j total first second room = omega (arith, first, second, room)
+
+raised_sum : (a b c k j total : ℕ) → b ≡ raised a k → c ≡ raised b j → k + j ≡ total → c ≡ raised a total
+raised_sum a b c k j total first second room = omega (arith, first, second, room)
+
+raised_most : (a b k total : ℕ) → b ≤ raised a k → k ≤ total → b ≤ raised a total
+raised_most a b k total first room = omega (arith, first, room)
+
+-- the input is the same after two calls
+pub same_input_then : (s : Shape) (a b c : RackView) → SameInput (dims_of s) a b → SameInput (dims_of s) b c → SameInput (dims_of s) a c
+same_input_then s a b c x y = record {
+  contents = λ u is. y.contents u is ∙ x.contents u is;
+  dirty = λ u is clean. y.dirty u is (x.dirty u is clean);
+}
+
+-- and where nothing was called
+pub same_input_none : (s : Shape) (a : RackView) → SameInput (dims_of s) a a
+same_input_none s a = record { contents = λ u is. refl; dirty = λ u is clean. clean }
+
+-- ---- the turns so far, which all went well
+pub record OnWay (told_stands told_contents : Bool) (start now : Machine) (old new : RackView) : Type 0 where
+  pub same : SameJob start now
+  pub alive : IsTrue now.alive
+  pub further : loads_moved start ≤ loads_moved now
+  pub counted : loads_counted start ≤ loads_counted now
+  pub follows : IsTrue told_stands → IsTrue told_contents → Follows start old → Follows now new
+  pub frame : DirtiesOnly (IsWorkUnit start.shape) old new
+  pub keeps : Keeps old new
+  pub input : SameInput (dims_of start.shape) old new
+  pub moves : new.moves ≡ raised old.moves (load_rows start.shape (loads_moved now - loads_moved start))
+  pub moves_low : old.moves ≤ new.moves
+  pub pages_low : old.pages ≤ new.pages
+  pub pages_high : new.pages ≤ raised old.pages (pages_spent now)
+  pub syncs_low : old.syncs ≤ new.syncs
+  pub syncs_high : new.syncs ≤ raised old.syncs (syncs_spent now)
+
+-- no turn yet
+pub on_way_start : (told_stands told_contents : Bool) (m : Machine) (v : RackView) → IsWellFormed told_stands told_contents v → IsTrue m.alive
+    → OnWay told_stands told_contents m m v v
+on_way_start told_stands told_contents m v well alive =
+    let fm = well.moves in
+    let fp = well.pages in
+    let fs = well.syncs in
+    record {
+      same = record { shape = refl; job = refl; passes = refl; every = refl };
+      alive = alive;
+      further = omega arith;
+      counted = omega arith;
+      follows = λ _ _ f. f;
+      frame = record { stands = refl; attached = refl; contents = λ u h. refl; dirty = λ u h clean. clean };
+      keeps = Keeps-refl v;
+      input = same_input_none m.shape v;
+      moves = (let none : load_rows m.shape (loads_moved m - loads_moved m) ≡ 0 = (let e : loads_moved m - loads_moved m ≡ 0 = omega arith in ap (λ (k : ℕ). load_rows m.shape k) e ∙ (let f : load_rows m.shape 0 ≡ 0 = omega arith in f)) in
+          sym (ap (λ (k : ℕ). raised v.moves k) none ∙ raised-zero v.moves fm));
+      moves_low = omega arith;
+      pages_low = omega arith;
+      pages_high = omega (arith, fp);
+      syncs_low = omega arith;
+      syncs_high = omega (arith, fs);
+    }
+
+-- both are of the same job as the first
+same_job_then : (a b c : Machine) → SameJob a b → SameJob b c → SameJob a c
+same_job_then a b c x y = record { shape = y.shape ∙ x.shape; job = y.job ∙ x.job; passes = y.passes ∙ x.passes; every = y.every ∙ x.every }
+
+-- the rows of one load more
+rows_next : (s : Shape) (k : ℕ) → load_rows s k + 2 * load_stripes s ≡ load_rows s (k + 1)
+rows_next s k = omega arith
+
+-- the frame of a turn as that of the job's turns
+turn_frame : (s : Shape) (m : Machine) (old new : RackView) → m.shape ≡ s → DirtiesOnly (IsTurnUnit m) old new → DirtiesOnly (IsWorkUnit s) old new
+turn_frame s m old new same w = subst (λ (t : Shape). DirtiesOnly (IsWorkUnit t) old new) same (DirtiesOnly-wider (IsTurnUnit m) (IsWorkUnit m.shape) old new (turn_work m) w)
+
+-- and its input
+turn_input_of : (s : Shape) (m : Machine) (old new : RackView) → m.shape ≡ s → SameInput (dims_of m.shape) old new → SameInput (dims_of s) old new
+turn_input_of s m old new same x = subst (λ (t : Shape). SameInput (dims_of t) old new) same x
+
+-- a turn more
+pub on_way_next : (told_stands told_contents : Bool) (start now next : Machine) (old mid new : RackView) (failed succeeds : Type 0)
+    → OnWay told_stands told_contents start now old mid → IsNextOf now next → loads_moved next ≡ loads_moved now + 1
+    → (IsTrue told_stands → IsTrue told_contents → Follows now mid → Follows next new)
+    → RackCall (IsTurnUnit now) failed mid new → SameInput (dims_of now.shape) mid new
+    → succeeds → MakesCalls succeeds (2 * load_stripes now.shape) (form_pages now.form + durable_pages now) (durable_syncs now) mid new
+    → OnWay told_stands told_contents start next old new
+on_way_next told_stands told_contents start now next old mid new failed succeeds o n moved follows call input ok c =
+    let further = o.further in
+    let shape = o.same.shape in
+    let low = o.pages_low in
+    let low2 = c.pages_low in
+    let slow = o.syncs_low in
+    let slow2 = c.syncs_low in
+    record {
+      same = same_job_then start now next o.same n.same;
+      alive = n.alive;
+      further = omega (arith, further, moved);
+      counted = (let a = o.counted in let b = counted_grows now next n in omega (arith, a, b));
+      follows = λ ts tc f. follows ts tc (o.follows ts tc f);
+      frame = DirtiesOnly-trans (IsWorkUnit start.shape) _ _ _ o.frame (turn_frame start.shape now mid new shape call.frame);
+      keeps = Keeps-trans _ _ _ o.keeps call.keeps;
+      input = same_input_then start.shape _ _ _ o.input (turn_input_of start.shape now mid new shape input);
+      moves = (let k = loads_moved now - loads_moved start in
+          let rows : 2 * load_stripes now.shape ≡ 2 * load_stripes start.shape = ap (λ (t : Shape). 2 * load_stripes t) shape in
+          let one : loads_moved next - loads_moved start ≡ k + 1 = omega (arith, further, moved) in
+          raised_sum _ _ _ (load_rows start.shape k) (2 * load_stripes now.shape) (load_rows start.shape (loads_moved next - loads_moved start)) o.moves (c.done ok)
+          (ap (λ (r : ℕ). load_rows start.shape k + r) rows ∙ rows_next start.shape k ∙ ap (λ (j : ℕ). load_rows start.shape j) (sym one)));
+      moves_low = (let a = o.moves_low in let b = c.moves_low in omega (arith, a, b));
+      pages_low = omega (arith, low, low2);
+      pages_high = raised_both _ _ _ (pages_spent now) (form_pages now.form + durable_pages now) (pages_spent next) o.pages_high c.pages_high (turn_pages_paid now next n);
+      syncs_low = omega (arith, slow, slow2);
+      syncs_high = raised_both _ _ _ (syncs_spent now) (durable_syncs now) (syncs_spent next) o.syncs_high c.syncs_high (turn_syncs_paid now next n);
+    }
+
+-- fewer loads are left
+pub fewer_left : (now next : Machine) → IsNextOf now next → now.done < now.passes → loads_moved next ≡ loads_moved now + 1 → loads_left next < loads_left now
+fewer_left now next n left moved =
+    let most = load_left now left in
+    let all : next.passes * loads_of next.shape ≡ now.passes * loads_of now.shape = rw (n.same.passes, n.same.shape) refl in
+    omega (arith, most, all, moved)
+
+-- the same numbers of calls by the first machine
+pages_of_start : (start now : Machine) → SameJob start now → turn_pages now.shape now.passes now.every ≡ turn_pages start.shape start.passes start.every
+pages_of_start start now same = rw (same.shape, same.passes, same.every) refl
+
+-- the same numbers of syncs and of loads
+syncs_of_start : (start now : Machine) → SameJob start now → turn_syncs now.shape now.passes now.every ≡ turn_syncs start.shape start.passes start.every
+syncs_of_start start now same = rw (same.shape, same.passes, same.every) refl
+
+loads_of_start : (start now : Machine) → SameJob start now → now.passes * loads_of now.shape ≡ start.passes * loads_of start.shape
+loads_of_start start now same = rw (same.passes, same.shape) refl
+
+-- the calls of all turns
+pub end_calls : (told_stands told_contents : Bool) (start now : Machine) (old new : RackView) (succeeds : Type 0) → OnWay told_stands told_contents start now old new
+    → now.done ≡ now.passes
+    → MakesCalls succeeds (load_rows start.shape (loads_left start)) (turn_pages start.shape start.passes start.every) (turn_syncs start.shape start.passes start.every) old new
+end_calls told_stands told_contents start now old new succeeds o end =
+    let all : loads_moved now ≡ start.passes * loads_of start.shape = loads_all now end ∙ loads_of_start start now o.same in
+    let moves : new.moves ≡ raised old.moves (load_rows start.shape (loads_left start)) = o.moves ∙ ap (λ (k : ℕ). raised old.moves (load_rows start.shape (k - loads_moved start))) all in
+    record {
+      done = λ _. moves;
+      moves_low = o.moves_low;
+      moves_high = omega (arith, moves);
+      pages_low = o.pages_low;
+      pages_high = raised_most _ _ _ _ o.pages_high (subst (λ (k : ℕ). pages_spent now ≤ k) (pages_of_start start now o.same) (end_pages_few now end));
+      syncs_low = o.syncs_low;
+      syncs_high = raised_most _ _ _ _ o.syncs_high (subst (λ (k : ℕ). syncs_spent now ≤ k) (syncs_of_start start now o.same) (end_syncs_few now end));
+    }
+
+-- the calls so far, and those of a turn that failed
+pub failed_calls : (told_stands told_contents : Bool) (start now : Machine) (old mid new : RackView) (first succeeds : Type 0)
+    → OnWay told_stands told_contents start now old mid → now.done < now.passes → ¬ succeeds
+    → MakesCalls first (2 * load_stripes now.shape) (form_pages now.form + durable_pages now) (durable_syncs now) mid new
+    → MakesCalls succeeds (load_rows start.shape (loads_left start)) (turn_pages start.shape start.passes start.every) (turn_syncs start.shape start.passes start.every) old new
+failed_calls told_stands told_contents start now old mid new first succeeds o left fails c =
+    let low = o.moves_low in
+    let low2 = c.moves_low in
+    let plow = o.pages_low in
+    let plow2 = c.pages_low in
+    let slow = o.syncs_low in
+    let slow2 = c.syncs_low in
+    let further = o.further in
+    let k = loads_moved now - loads_moved start in
+    let rows : 2 * load_stripes now.shape ≡ 2 * load_stripes start.shape = ap (λ (t : Shape). 2 * load_stripes t) o.same.shape in
+    let most = load_left now left in
+    let all = loads_of_start start now o.same in
+    let within : load_rows start.shape (k + 1) ≤ load_rows start.shape (loads_left start) = mul-le-mul_left (2 * load_stripes start.shape) (omega (arith, most, all, further)) in
+    let one = rows_next start.shape k in
+    record {
+      done = λ ok. absurd (fails ok);
+      moves_low = omega (arith, low, low2);
+      moves_high = raised_both _ _ _ (load_rows start.shape k) (2 * load_stripes now.shape) (load_rows start.shape (loads_left start)) (let m = o.moves in omega (arith, m)) c.moves_high (omega (arith, rows, within, one));
+      pages_low = omega (arith, plow, plow2);
+      pages_high = raised_both _ _ _ (pages_spent now) (form_pages now.form + durable_pages now) _ o.pages_high c.pages_high
+          (subst (λ (k : ℕ). pages_spent now + (form_pages now.form + durable_pages now) ≤ k) (pages_of_start start now o.same) (turn_pages_few now left));
+      syncs_low = omega (arith, slow, slow2);
+      syncs_high = raised_both _ _ _ (syncs_spent now) (durable_syncs now) _ o.syncs_high c.syncs_high
+          (subst (λ (k : ℕ). syncs_spent now + durable_syncs now ≤ k) (syncs_of_start start now o.same) (turn_syncs_few now left));
+    }
+
+-- how far they came
+pub reached_of : (told_stands told_contents : Bool) (start now : Machine) (old mid new : RackView) (first : Type 0) (gone : ℕ)
+    → OnWay told_stands told_contents start now old mid
+    → MakesCalls first (2 * load_stripes now.shape) (form_pages now.form + durable_pages now) (durable_syncs now) mid new
+    → loads_counted now ≤ gone → IsReached start gone old new
+reached_of told_stands told_contents start now old mid new first gone o c sure =
+    let further = o.further in
+    let counted = o.counted in
+    let near = moved_near now in
+    let every = o.same.every in
+    let k = loads_moved now - loads_moved start in
+    let rows : 2 * load_stripes now.shape ≡ 2 * load_stripes start.shape = ap (λ (t : Shape). 2 * load_stripes t) o.same.shape in
+    let within : load_rows start.shape (k + 1) ≤ load_rows start.shape (gone + start.every - loads_moved start) = mul-le-mul_left (2 * load_stripes start.shape) (omega (arith, near, every, sure, further)) in
+    let one = rows_next start.shape k in
+    record {
+      counted = omega (arith, counted, sure);
+      rows = raised_both _ _ _ (load_rows start.shape k) (2 * load_stripes now.shape) (load_rows start.shape (gone + start.every - loads_moved start)) (let m = o.moves in omega (arith, m)) c.moves_high (omega (arith, rows, within, one));
+    }
+
+-- the calls so far and one that failed
+pub failed_call : (told_stands told_contents : Bool) (start now : Machine) (old mid new : RackView) (first failed : Type 0)
+    → OnWay told_stands told_contents start now old mid → (failed → first) → RackCall (IsTurnUnit now) first mid new → RackCall (IsWorkUnit start.shape) failed old new
+failed_call told_stands told_contents start now old mid new first failed o f c = record {
+  frame = DirtiesOnly-trans (IsWorkUnit start.shape) _ _ _ o.frame (turn_frame start.shape now mid new o.same.shape c.frame);
+  keeps = Keeps-trans _ _ _ o.keeps c.keeps;
+  cause = HasCause-later failed _ _ _ o.keeps (record { rose = λ e. c.cause.rose (f e); sure = λ h k e. c.cause.sure h k (f e) });
+}
+
+-- the input after it
+pub failed_input : (told_stands told_contents : Bool) (start now : Machine) (old mid new : RackView)
+    → OnWay told_stands told_contents start now old mid → SameInput (dims_of now.shape) mid new → SameInput (dims_of start.shape) old new
+failed_input told_stands told_contents start now old mid new o x = same_input_then start.shape _ _ _ o.input (turn_input_of start.shape now mid new o.same.shape x)
+
+-- a pass's body that is none now was none before
+pub bad_before : (told_stands told_contents : Bool) (start now : Machine) (old mid : RackView) (page : ℕ) → OnWay told_stands told_contents start now old mid
+    → now.done < now.passes → IsBadBody now mid.contents page → IsBadPass start.shape start.passes old.contents page
+bad_before told_stands told_contents start now old mid page o left bad =
+    let few = few_passes now.shape now.job now.passes now.done now.every now.part now.slot now.load now.keeps in
+    let same : page_at mid.contents (pass_body now.done) ≡ page_at old.contents (pass_body now.done) =
+    o.frame.contents (page_unit (pass_body now.done)) (body_kept start.shape now.done (omega (arith, left, few))) in (
+      now.done,
+      subst (λ (p : ℕ). now.done < p) o.same.passes left,
+      bad.0,
+      λ form next. bad.1 form (subst (λ (t : Shape). IsNext t now.done mid.contents form) (sym o.same.shape) (subst (λ (p : List ℕ). IsPassBody start.shape now.done p form) (sym same) next)),
+    )
+
+-- the row calls of so many loads fit a word
+pub rows_fit : (s : Shape) (passes moved : ℕ) → passes ≤ 254 → moved ≤ passes * loads_of s → load_rows s moved < 2 ^ 64
+rows_fit s passes moved few most =
+    let a : passes * loads_of s ≤ 254 * loads_of s = mul-le-mul_right (loads_of s) few in
+    let b : load_rows s moved ≤ load_rows s (254 * loads_of s) = mul-le-mul_left (2 * load_stripes s) (omega (arith, a, most)) in
+    let c : load_rows s (254 * loads_of s) ≡ 254 * (loads_of s * (2 * load_stripes s)) = omega arith in
+    let d = rows_of_pass s in
+    let e : stripes s ≤ 2 ^ 52 = pow_mono {i = s.n - s.b - s.d} {j = 52} (let few = s.keeps.addresses in omega (arith, few)) in
+    let f : 254 * (loads_of s * (2 * load_stripes s)) ≡ 254 * (2 * stripes s) = ap (λ (k : ℕ). 254 * k) d in
+    omega (arith, b, c, e, f)
+
+-- and are within the job's limit
+pub rows_most : (s : Shape) (passes most loads : ℕ) → passes ≤ most → loads ≤ passes * loads_of s → load_rows s loads ≤ 2 * stripes s * most
+rows_most s passes most loads few less =
+    let a : passes * loads_of s ≤ most * loads_of s = mul-le-mul_right (loads_of s) few in
+    let b : load_rows s loads ≤ load_rows s (most * loads_of s) = mul-le-mul_left (2 * load_stripes s) (omega (arith, a, less)) in
+    let c : load_rows s (most * loads_of s) ≡ most * (loads_of s * (2 * load_stripes s)) = omega arith in
+    let d : most * (loads_of s * (2 * load_stripes s)) ≡ most * (2 * stripes s) = ap (λ (k : ℕ). most * k) (rows_of_pass s) in
+    omega (arith, b, c, d)
