@@ -28,6 +28,12 @@ mod random_maps;
 #[cfg(test)]
 mod record_lists;
 #[cfg(test)]
+mod run_rows;
+#[cfg(test)]
+mod run_stops;
+#[cfg(test)]
+mod runs;
+#[cfg(test)]
 mod slates;
 #[cfg(test)]
 mod text_rows;
