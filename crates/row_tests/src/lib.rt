@@ -32,6 +32,8 @@ mod run_rows;
 #[cfg(test)]
 mod run_stops;
 #[cfg(test)]
+mod run_transform;
+#[cfg(test)]
 mod runs;
 #[cfg(test)]
 mod slates;
