@@ -1,0 +1,2 @@
+pub mod PassListLemmas
+pub mod RoundsLemmas

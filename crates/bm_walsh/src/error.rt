@@ -1,0 +1,14 @@
+//! Why a transform has no plan.
+
+use thiserror::Error;
+
+/// Why there is no plan of the transform.
+#[derive(Clone, Copy, Debug, PartialEq, Eq, Error)]
+pub enum WalshError {
+    /// The records are not 8 bytes wide.
+    #[error("the records are not 8 bytes wide")]
+    Width,
+    /// Memory for the plan was refused.
+    #[error("out of memory")]
+    OutOfMemory,
+}
