@@ -1,0 +1,4 @@
+pub mod ScanLemmas
+pub mod AnswerLemmas
+pub mod MoveLemmas
+pub mod LoadLemmas

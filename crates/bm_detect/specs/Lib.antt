@@ -1,0 +1,4 @@
+pub mod Candidate
+pub mod Answer
+pub mod Scan
+pub mod Moves
