@@ -1,0 +1,5 @@
+//! Worked rows of detection.
+#![tactic(auto)]
+
+#[cfg(test)]
+mod lists;
