@@ -1,6 +1,6 @@
 -- Numbers in records, and butterflies.
-use Rattle.std.proofs.Common.{ℕ, zero, suc, ◌≡◌, ◌+◌, ◌-◌, ◌*◌, ◌/◌, ◌%◌, ◌^◌, ◌<◌, ◌≤◌, List, [], ◌∷◌, if◌then◌else◌, ◌==◌, true, false, refl, sym, ap, ◌∙◌, subst, arith, ⊎_elim}
-use Rattle.std.proofs.lemmas.Bool.{cases_lt, cases_eq, eq-eqb, ne_eqb}
+use Rattle.std.proofs.Common.{ℕ, zero, suc, ◌≡◌, ◌+◌, ◌-◌, ◌*◌, ◌/◌, ◌%◌, ◌^◌, ◌<◌, ◌≤◌, List, [], ◌∷◌, refl, sym, ap, ◌∙◌, subst, arith, ⊎_elim}
+use Rattle.std.proofs.lemmas.Bool.{cases_lt, cases_eq}
 use Rattle.std.proofs.lemmas.Nat.{pow_pos, shr_split, mod-pow-add, pow-add}
 use Rattle.std.proofs.lemmas.List.{append-nil}
 use Rattle.std.proofs.Math.Pow.{shr_lt}
@@ -10,13 +10,11 @@ use Rattle.std.specs.Int.{bit_at, byte_at, bytes_low_first}
 use Rattle.byteorder.specs.Endian.{little_number, little_bytes}
 use Rattle.byteorder.specs.Numbers.{little_number-reads_back}
 use Rattle.bm_base.specs.Records.{SameRecords}
+use Rattle.bm_base.proofs.CaseLemmas.{if_same, if_other, plus_same}
 use Rattle.bm_base.specs.Butterfly.{number_in, record_of, negative, butterfly, butterflies}
 
 same_cons : {a b : ℕ} {xs ys : List ℕ} → a ≡ b → xs ≡ ys → a ∷ xs ≡ b ∷ ys
 same_cons p q = cc
-
-plus_same : {a b c d : ℕ} → a ≡ c → b ≡ d → a + b ≡ c + d
-plus_same p q = cc
 
 plus_assoc : (a b c : ℕ) → a + b + c ≡ a + (b + c)
 plus_assoc a b c = omega arith
@@ -62,12 +60,6 @@ pub number_in-record_of : (v : ℕ) → number_in (record_of v) ≡ v % 18446744
 number_in-record_of v = ap number_in (sym (record_of-cut v)) ∙ read_back (v % 18446744073709551616) (mod-lt v (omega arith))
 
 -- ---- one butterfly
-
-if_same : {A : Type 0} (a b : ℕ) (x y : A) → a ≡ b → (if a == b then x else y) ≡ x
-if_same a b x y h = let e : (a == b) ≡ true = eq-eqb a b h in rw e refl
-
-if_other : {A : Type 0} (a b : ℕ) (x y : A) → (a ≡ b → ⊥) → (if a == b then x else y) ≡ y
-if_other a b x y h = let e : (a == b) ≡ false = ne_eqb a b h in rw e refl
 
 pub set_bit : (k r : ℕ) → bit_at k r ≡ 0 → bit_at (k + 2 ^ r) r ≡ 1
 set_bit k r h = ap (λ (c : ℕ). c % 2) (add-div_right k (pow_pos r)) ∙ (let z : k / 2 ^ r % 2 ≡ 0 = h in let e : (k / 2 ^ r + 1) % 2 ≡ 1 = omega arith in e)

@@ -2,3 +2,5 @@ pub mod ShapeLemmas
 pub mod ChunkLemmas
 pub mod RecordLemmas
 pub mod ButterflyLemmas
+pub mod EqualLemmas
+pub mod CaseLemmas

@@ -2,7 +2,7 @@
 use Rattle.std.proofs.Common.{◌≡◌, ℕ, ◌+◌, ◌-◌, ◌*◌, ◌^◌, ◌<◌, ◌≤◌, inl, inr, sym, ◌∙◌, ap, arith}
 use Rattle.std.proofs.lemmas.Nat.{pow-add}
 use Rattle.std.proofs.Math.Pow.{pow_mono}
-use Rattle.std.proofs.Math.Nat.{le-mul_of_pos_right, mul-le-mul_right}
+use Rattle.std.proofs.Math.Nat.{le-mul_of_pos_right, mul-le-mul_left, mul-le-mul_right}
 use Rattle.std.proofs.lemmas.Bool.{cases_lt}
 use Rattle.bm_base.specs.declared.shape.Shape.{Shape}
 use Rattle.bm_base.specs.declared.area.Area.{Area}
@@ -34,6 +34,24 @@ load_in_area s load below =
     let split : 2 ^ (s.n - s.b - s.d) ≡ 2 ^ (s.n - s.m) * rows = ap (λ x. 2 ^ x) (sym exponent) ∙ pow-add 2 (s.n - s.m) (s.m - s.b - s.d) in
     let more : (load + 1) * rows ≤ 2 ^ (s.n - s.m) * rows = mul-le-mul_right rows (omega arith) in
     omega arith
+
+-- the loads of an area hold its rows
+pub loads_rows : (s : Shape) → 2 ^ (s.n - s.m) * load_stripes s ≡ stripes s
+loads_rows s =
+    let exponent : (s.n - s.m) + (s.m - s.b - s.d) ≡ s.n - s.b - s.d = omega (arith, s.keeps.stripe, s.keeps.memory) in
+    sym (pow-add 2 (s.n - s.m) (s.m - s.b - s.d)) ∙ ap (λ (x : ℕ). 2 ^ x) exponent
+
+-- and its records
+pub loads_records : (s : Shape) → 2 ^ s.m * 2 ^ (s.n - s.m) ≡ 2 ^ s.n
+loads_records s =
+    let exponent : s.m + (s.n - s.m) ≡ s.n = omega (arith, s.keeps.memory) in
+    sym (pow-add 2 s.m (s.n - s.m)) ∙ ap (λ (x : ℕ). 2 ^ x) exponent
+
+-- the records of a load lie among those of an area
+pub load_records : (s : Shape) (load : ℕ) → load < 2 ^ (s.n - s.m) → 2 ^ s.m * (load + 1) ≤ 2 ^ s.n
+load_records s load below =
+    let most : 2 ^ s.m * (load + 1) ≤ 2 ^ s.m * 2 ^ (s.n - s.m) = mul-le-mul_left (2 ^ s.m) (omega arith) in
+    omega (arith, loads_records s)
 
 pub stripes_fit : (s : Shape) → stripes s ≤ 2 ^ 52
 stripes_fit s = pow_mono {i = s.n - s.b - s.d} {j = 52} (omega (arith, s.keeps.addresses))

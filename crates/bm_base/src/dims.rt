@@ -1,11 +1,5 @@
 //! The sizes of a rack.
 
-/// The pages of a slate.
-pub const SLATE_PAGES: u16 = 516;
-
-/// The bytes of a page.
-pub const PAGE_BYTES: usize = 512;
-
 /// The sizes of a rack of disks, as in the parallel disk model of Vitter and Shriver.
 #[derive(Clone, Copy, Debug, PartialEq, Eq)]
 pub struct Dims {

@@ -1,4 +1,5 @@
 //! Powers of two.
+
 ghost use Rattle.std.specs.Prelude.{◌≡◌, ◌≢◌, ℕ, ◌^◌, MatchOption};
 
 /// lg v, or nothing exactly where v is no power of two.

@@ -1,8 +1,12 @@
 //! The sizes of a set of records on a rack.
+
 ghost use Rattle.std.specs.Prelude.{◌≡◌, ℕ, ◌+◌, ◌-◌, ◌*◌, ◌/◌, ◌^◌, ◌<◌, ◌≤◌, ◌↔◌, IsOk, IfOk, IfErr};
 ghost use Rattle.bm_base.specs.ShapeRules.{IsShape, broken_rule};
 
 use crate::dims::Dims;
+use crate::limits::{
+    MOST_ADDRESS_BITS, MOST_DISK_BITS, MOST_DISK_BYTES_BITS, MOST_LOAD_BITS, MOST_WIDTH,
+};
 
 /// The sizes of N records that lie striped over D disks, all powers of two but the width.
 ///
@@ -39,10 +43,10 @@ impl Shape {
         ensures sizes { IfOk result (λ s. (s.n ≡ n) × (s.b ≡ b) × (s.d ≡ d) × (s.m ≡ m) × (s.width ≡ width)) }
         ensures broken { IfErr result (λ e. e.rule ≡ broken_rule n b d m width) }
     {
-        if n > 52 {
+        if n > MOST_ADDRESS_BITS {
             return Err(ShapeRule { rule: 1 });
         }
-        if d > 6 {
+        if d > MOST_DISK_BITS {
             return Err(ShapeRule { rule: 2 });
         }
         if b >= m {
@@ -54,14 +58,14 @@ impl Shape {
         if m > n {
             return Err(ShapeRule { rule: 5 });
         }
-        if width < 1 || width > 4096 {
+        if width < 1 || width > MOST_WIDTH {
             return Err(ShapeRule { rule: 6 });
         }
         let bytes = u128::from(width);
-        if (1u128 << m) * bytes > 1u128 << 30 {
+        if (1u128 << m) * bytes > 1u128 << MOST_LOAD_BITS {
             return Err(ShapeRule { rule: 7 });
         }
-        if 3 * (1u128 << n) * bytes > 1u128 << (63 + d) {
+        if 3 * (1u128 << n) * bytes > 1u128 << (MOST_DISK_BYTES_BITS + d) {
             return Err(ShapeRule { rule: 9 });
         }
         Ok(Shape { n, b, d, m, width })

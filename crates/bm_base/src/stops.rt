@@ -1,4 +1,5 @@
 //! Stops of a drill.
+
 ghost use Rattle.std.specs.Prelude.{◌≡◌, List};
 
 use std::marker::Model;
