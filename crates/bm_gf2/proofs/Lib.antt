@@ -2,3 +2,4 @@ pub mod VectorLemmas
 pub mod RowLemmas
 pub mod StepperLemmas
 pub mod RotationLemmas
+pub mod MapLemmas

@@ -1,20 +1,12 @@
 -- Matrices whose columns are unit vectors.
-use Rattle.std.proofs.Common.{◌≡◌, ◌≢◌, ℕ, zero, suc, ◌+◌, ◌-◌, ◌*◌, ◌%◌, ◌^◌, ◌<◌, ◌≤◌, refl, sym, ap, ◌∙◌, arith, ⊎_elim}
+use Rattle.std.proofs.Common.{◌≡◌, ◌≢◌, ℕ, zero, suc, ◌+◌, ◌-◌, ◌*◌, ◌%◌, ◌^◌, ◌<◌, ◌≤◌, sym, ap, ◌∙◌, arith, ⊎_elim}
 use Rattle.std.specs.Int.{bit_at}
 use Rattle.std.specs.Int.Bits.{xor_zero_l, xor_zero_r}
 use Rattle.std.proofs.Math.Nat.{mod-lt, mod-eq_of_lt, add-mod_left, add-mod_right}
 use Rattle.std.proofs.lemmas.Nat.Bits.{bit_at-pow_same, bit_at-pow_other}
 use Rattle.std.proofs.lemmas.Bool.{cases_lt}
 use Rattle.bm_gf2.specs.Vector.{xor_sum}
-use Rattle.bm_gf2.proofs.VectorLemmas.{xor_same, xor_sum-bit, xor_sum-ext, xor_sum-units}
-
--- columns that are all 0
-xor_sum-zeros : (w : ℕ → ℕ) (k x : ℕ) → ((j : ℕ) → j < k → w j ≡ 0) → xor_sum w k x ≡ 0
-unfolding xor_sum
-xor_sum-zeros w zero x zeros = refl
-xor_sum-zeros w (suc k) x zeros =
-    xor_same (xor_sum-zeros w k x (λ j l. zeros j (omega arith)))
-    (ap (λ (c : ℕ). bit_at x k * c) (zeros k (omega arith)) ∙ (let e : bit_at x k * 0 ≡ 0 = omega arith in e))
+use Rattle.bm_gf2.proofs.VectorLemmas.{xor_same, xor_sum-zeros, xor_sum-bit, xor_sum-ext, xor_sum-units}
 
 -- one column is 1, the others are 0
 xor_sum-single : (w : ℕ → ℕ) (k x i : ℕ) → i < k → w i ≡ 1 → ((j : ℕ) → j < k → j ≢ i → w j ≡ 0) → xor_sum w k x ≡ bit_at x i

@@ -63,6 +63,14 @@ unfolding xor_sum
 xor_sum-zero w zero = refl
 xor_sum-zero w (suc k) = rw (xor_sum-zero w k, bit_at-zero k) (zero_times (w k))
 
+-- columns that are all 0
+pub xor_sum-zeros : (w : ℕ → ℕ) (k x : ℕ) → ((j : ℕ) → j < k → w j ≡ 0) → xor_sum w k x ≡ 0
+unfolding xor_sum
+xor_sum-zeros w zero x zeros = refl
+xor_sum-zeros w (suc k) x zeros =
+    xor_same (xor_sum-zeros w k x (λ j l. zeros j (omega arith)))
+    (ap (λ (c : ℕ). bit_at x k * c) (zeros k (omega arith)) ∙ (let e : bit_at x k * 0 ≡ 0 = omega arith in e))
+
 -- additive in the vector
 pub xor_sum-xor : (w : ℕ → ℕ) (k x y : ℕ) → xor_sum w k (bit_xor x y) ≡ bit_xor (xor_sum w k x) (xor_sum w k y)
 unfolding xor_sum

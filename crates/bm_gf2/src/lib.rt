@@ -1,4 +1,5 @@
 //! Vectors, matrices and affine maps over GF(2), as numbers of at most 52 bits.
+
 #![tactic(auto)]
 
 mod affine;

@@ -17,6 +17,7 @@ pub struct Matrix {
     pub cols: [u64; MOST_COLUMNS],
     ghost some: { 1 ≤ n },
     ghost few: { n ≤ 52 },
+    ghost long: { length cols ≡ 52 },
     ghost below: { (j : ℕ) → j < n → slice_index cols j < 2 ^ n },
     ghost rest: { (j : ℕ) → n ≤ j → slice_index cols j ≡ 0 },
 }

@@ -8,8 +8,8 @@ use crate::affine::Affine;
 use crate::matrix::Matrix;
 use crate::vector::MOST_COLUMNS;
 
-/// A place in the table of prefix sums for each number of trailing ones, 0 to 52.
-const PREFIX_SUMS: usize = 53;
+// A place in the table of prefix sums for each number of trailing ones, 0 to 52.
+const PREFIX_SUMS: usize = MOST_COLUMNS + 1;
 
 /// A position that goes up by one, and from the last to 0, and its image under an affine map.
 ///

@@ -3,8 +3,10 @@
 ghost use Rattle.std.specs.Prelude.{◌≡◌, ℕ, ◌^◌, ◌<◌, ◌≤◌, length, slice_index};
 ghost use Rattle.bm_gf2.specs.Vector.{xor_sum, IsAdditive};
 
-/// The most columns that a matrix has.
-pub const MOST_COLUMNS: usize = 52;
+use bm_base::MOST_ADDRESS_BITS;
+
+/// The most columns of a matrix, one for each bit of an address.
+pub const MOST_COLUMNS: usize = MOST_ADDRESS_BITS as usize;
 
 /// No columns: all are 0.
 pub fn no_columns() -> [u64; MOST_COLUMNS]

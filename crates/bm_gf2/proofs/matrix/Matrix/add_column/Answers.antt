@@ -1,5 +1,6 @@
-use Rattle.std.proofs.Common.{◌^◌, arith}
+use Rattle.std.proofs.Common.{◌^◌, ◌∙◌, arith}
 use Rattle.std.proofs.lemmas.Nat.{xor_lt}
+use Rattle.std.proofs.lemmas.List.{length-set}
 use Rattle.bm_gf2.proofs.VectorLemmas.{set_below, set_rest}
 use Rattle.bm_gf2.proofs.matrix.Matrix.add_column.Goals as goal
 
@@ -14,3 +15,8 @@ pub invariant_of-self-clause-rest : goal.invariant_of-self-clause-rest
 invariant_of-self-clause-rest c =
     rw (c.from-2.ensures, c.from.ensures)
     (set_rest c.args.self.now.cols c.args.self.now.n c.args.into _ c.args.self.now.rest c.requires.into)
+
+pub invariant_of-self-clause-long : goal.invariant_of-self-clause-long
+invariant_of-self-clause-long c =
+    rw (c.from-2.ensures, c.from.ensures)
+    (length-set c.args.self.now.cols c.args.into _ ∙ c.args.self.now.long)
