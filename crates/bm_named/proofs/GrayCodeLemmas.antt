@@ -1,12 +1,12 @@
 -- The Gray code as an additive map, and the columns of its inverse.
-use Rattle.std.proofs.Common.{ℕ, zero, suc, ◌≡◌, ◌+◌, ◌-◌, ◌*◌, ◌/◌, ◌^◌, ◌<◌, bit_xor, refl, sym, ap, ◌∙◌, arith}
+use Rattle.std.proofs.Common.{ℕ, suc, ◌≡◌, ◌+◌, ◌-◌, ◌*◌, ◌/◌, ◌^◌, ◌<◌, bit_xor, sym, ap, ◌∙◌, arith}
 use Rattle.std.specs.Int.{bit_at}
 use Rattle.std.specs.Int.Bits.{xor_zero_l, xor_shr, xor_self, xor_shifted}
 use Rattle.std.proofs.lemmas.Nat.{pow_pos}
 use Rattle.std.proofs.Math.Nat.{pow-suc, mod-eq_of_lt}
 use Rattle.std.proofs.lemmas.Nat.Bits.{bit_at_ones, bit_at_ones_above}
 use Rattle.bm_gf2.specs.Vector.{xor_sum}
-use Rattle.bm_gf2.proofs.VectorLemmas.{xor_same, xor_swap, xor_cancel_right, xor_sum-map, xor_sum-ext, xor_sum-units, xor_sum-bit, xor_sum-split, eq_of_xor-zero}
+use Rattle.bm_gf2.proofs.VectorLemmas.{xor_same, xor_sum-zeros, xor_swap, xor_cancel_right, xor_sum-map, xor_sum-ext, xor_sum-units, xor_sum-bit, xor_sum-split, eq_of_xor-zero}
 use Rattle.bm_named.specs.GrayCode.{gray_of, xor_of_bits}
 
 -- the code of a sum is the sum of the codes
@@ -42,14 +42,6 @@ inverse_gray_undone w n x columns below =
     ∙ xor_sum-ext (λ j. gray_of (w j)) (λ j. 2 ^ j) n x (λ j inside. ap gray_of (columns j inside) ∙ gray_of_ones j)
     ∙ xor_sum-units n x ∙ mod-eq_of_lt below
 
--- columns of which all or none have the bit
-no_columns_sum : (w : ℕ → ℕ) (k x : ℕ) → ((j : ℕ) → j < k → w j ≡ 0) → xor_sum w k x ≡ 0
-unfolding xor_sum
-no_columns_sum w zero x none = refl
-no_columns_sum w (suc k) x none =
-    xor_same (no_columns_sum w k x (λ j l. none j (omega arith)))
-    (ap (λ (c : ℕ). bit_at x k * c) (none k (omega arith)) ∙ (let e : bit_at x k * 0 ≡ 0 = omega arith in e))
-
 -- bit i of the sum is the XOR of the bits from i on
 pub inverse_gray_bit : (w : ℕ → ℕ) (n x i : ℕ) → ((j : ℕ) → j < n → w j ≡ 2 ^ (j + 1) - 1) → i < n
     → bit_at (xor_sum w n x) i ≡ xor_of_bits n i x
@@ -61,7 +53,7 @@ inverse_gray_bit w n x i columns inside =
     ∙ ap (λ (c : ℕ). xor_sum row c x) (sym whole)
     ∙ xor_sum-split row i rest x
     ∙ xor_same
-    (no_columns_sum row i x (λ j l. ap (λ (c : ℕ). bit_at c i) (columns j (omega arith)) ∙ bit_at_ones_above (j + 1) i (omega arith)))
+    (xor_sum-zeros row i x (λ j l. ap (λ (c : ℕ). bit_at c i) (columns j (omega arith)) ∙ bit_at_ones_above (j + 1) i (omega arith)))
     (xor_sum-ext (λ j. row (i + j)) (λ _. 1) rest (x / 2 ^ i)
     (λ j l. ap (λ (c : ℕ). bit_at c i) (columns (i + j) (omega arith)) ∙ bit_at_ones (i + j + 1) i (omega arith)))
     ∙ xor_zero_l (xor_sum (λ _. 1) rest (x / 2 ^ i))

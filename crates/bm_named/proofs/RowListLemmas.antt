@@ -7,7 +7,7 @@ use Rattle.bm_gf2.specs.declared.matrix.Matrix.{Matrix}
 use Rattle.bm_gf2.specs.Matrix.{column, image}
 use Rattle.bm_gf2.specs.Kernel.{IsLeastKernel}
 use Rattle.bm_rank.proofs.RowCutLemmas.{image_below}
-use Rattle.bm_named.specs.RowList.{SendToZero, IsLeastSent}
+use Rattle.bm_named.specs.RowList.{SendToZero, IsLeastKernelOfRows}
 use Rattle.bm_named.proofs.ImageLemmas.{image-row}
 
 -- a matrix of these rows
@@ -27,7 +27,7 @@ module _ (a : Matrix) (rows : List ℕ) (entries : (i j : ℕ) → i < a.n → j
       ∙ sym (bit_at-zero i))
 
   -- the least vector of the matrix is that of its rows
-  pub least_sent : (x : ℕ) → IsLeastKernel a x → IsLeastSent a.n rows x
+  pub least_sent : (x : ℕ) → IsLeastKernel a x → IsLeastKernelOfRows a.n rows x
   least_sent x kernel = record {
     some = kernel.some;
     below = kernel.below;

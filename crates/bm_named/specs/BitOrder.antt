@@ -10,7 +10,7 @@ pub record IsBitOrder (n : ℕ) (list : List ℕ) : Type 0 where
   pub distinct : (i j : ℕ) → i < j → j < n → slice_index list i ≢ slice_index list j
 
 -- entry i is the first that is no bit below n
-pub record IsFirstOutside (n : ℕ) (list : List ℕ) (i : ℕ) : Type 0 where
+pub record IsFirstNoBit (n : ℕ) (list : List ℕ) (i : ℕ) : Type 0 where
   pub inside : i < n
   pub outside : n ≤ slice_index list i
   pub before : (k : ℕ) → k < i → slice_index list k < n
@@ -29,7 +29,7 @@ LengthIs n list got = (length list ≢ n) × (got ≡ min (length list) (2 ^ 32 
 -- the first fault of a list of bits: its length, then an entry that is no bit, then one that stands twice
 abbrev pub BitsFaultIs : ℕ → List ℕ → MapFault → Type 0
 BitsFaultIs n list (Length got) = LengthIs n list got
-BitsFaultIs n list (Range i) = (length list ≡ n) × IsFirstOutside n list i
+BitsFaultIs n list (Range i) = (length list ≡ n) × IsFirstNoBit n list i
 BitsFaultIs n list (Twice i j) = (length list ≡ n) × ((k : ℕ) → k < n → slice_index list k < n) × IsFirstRepeat n list i j
 BitsFaultIs n list Width = ⊥
 BitsFaultIs n list (Side p) = ⊥

@@ -22,7 +22,7 @@ abbrev pub SendToZero : ℕ → List ℕ → ℕ → Type 0
 SendToZero n rows x = (i : ℕ) → i < n → xor_sum (bit_at (slice_index rows i)) n x ≡ 0
 
 -- the least vector but 0 that the matrix of the rows sends to 0
-pub record IsLeastSent (n : ℕ) (rows : List ℕ) (x : ℕ) : Type 0 where
+pub record IsLeastKernelOfRows (n : ℕ) (rows : List ℕ) (x : ℕ) : Type 0 where
   pub some : x ≢ 0
   pub below : x < 2 ^ n
   pub sent : SendToZero n rows x
@@ -32,7 +32,7 @@ pub record IsLeastSent (n : ℕ) (rows : List ℕ) (x : ℕ) : Type 0 where
 abbrev pub RowsFaultIs : ℕ → List ℕ → MapFault → Type 0
 RowsFaultIs n rows (Length got) = LengthIs n rows got
 RowsFaultIs n rows (Wide i) = (length rows ≡ n) × IsFirstWide n rows i
-RowsFaultIs n rows (Singular x) = AreRows n rows × IsLeastSent n rows x
+RowsFaultIs n rows (Singular x) = AreRows n rows × IsLeastKernelOfRows n rows x
 RowsFaultIs n rows Width = ⊥
 RowsFaultIs n rows (Side p) = ⊥
 RowsFaultIs n rows (Range i) = ⊥

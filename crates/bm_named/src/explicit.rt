@@ -5,7 +5,7 @@ ghost use Rattle.std.specs.Prelude.{OnOk, OnErr, IfOk, IfErr, IfSome, IfNone};
 ghost use Rattle.std.specs.Int.{bit_at};
 ghost use Rattle.bm_gf2.specs.Matrix.{column, image, IsNonsingular};
 ghost use Rattle.bm_gf2.specs.Affine.{affine_image};
-ghost use Rattle.bm_named.specs.BitOrder.{IsBitOrder, IsFirstOutside, IsFirstRepeat, BitsFaultIs};
+ghost use Rattle.bm_named.specs.BitOrder.{IsBitOrder, IsFirstNoBit, IsFirstRepeat, BitsFaultIs};
 ghost use Rattle.bm_named.specs.RowList.{AreRows, IsFirstWide, RowsFaultIs};
 
 use crate::map_fault::MapFault;
@@ -94,7 +94,7 @@ fn check_length(n: u8, length: usize) -> Result<(), MapFault>
 // The first entry that is no bit below n.
 fn first_outside(n: u8, list: &[u8]) -> Option<u8>
     requires { length list.now ≡ n }
-    ensures some { IfSome result (λ i. IsFirstOutside n list.now i) }
+    ensures some { IfSome result (λ i. IsFirstNoBit n list.now i) }
     ensures none { IfNone result ((k : ℕ) → k < n → slice_index list.now k < n) }
 {
     for i in 0..n {

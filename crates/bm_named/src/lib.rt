@@ -1,4 +1,5 @@
 //! Address maps by name: reversals, transpositions, Gray codes, and maps by lists of bits or rows.
+
 #![tactic(auto)]
 
 mod explicit;

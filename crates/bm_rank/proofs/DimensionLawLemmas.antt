@@ -9,11 +9,11 @@ use Rattle.std.proofs.lemmas.Bool.{cases_lt, cases_eq, false≢true}
 use Rattle.bm_gf2.specs.Vector.{xor_sum}
 use Rattle.bm_gf2.specs.declared.matrix.Matrix.{Matrix}
 use Rattle.bm_gf2.specs.Matrix.{image, IsNonsingular}
-use Rattle.bm_gf2.proofs.VectorLemmas.{xor_sum_start, xor_sum-more, xor_sum-ext, xor_sum-pow, xor_sum-lt, xor_same, bit_cases, bit_of_xor, eq_of_xor-zero}
+use Rattle.bm_gf2.proofs.VectorLemmas.{xor_sum_start, xor_sum-more, xor_sum-ext, xor_sum-lt, xor_same, bit_cases, bit_of_xor, eq_of_xor-zero}
 use Rattle.bm_rank.specs.Echelon.{IsRowEchelon, IsReduced, IsEchelon, pivot_count, weight}
 use Rattle.bm_rank.specs.Span.{in_span, sum_of}
 use Rattle.bm_rank.specs.Rank.{rank, cut_columns, rank_of_rows, IsBasis}
-use Rattle.bm_rank.proofs.SpanLemmas.{sum_of-cons, sum_of_span, sum_of-take, in_span-sum}
+use Rattle.bm_rank.proofs.SpanLemmas.{sum_of-cons, sum_of_span, sum_of-take, in_span-sum, in_span-member}
 use Rattle.bm_rank.proofs.ReductionLemmas.{row_below}
 use Rattle.bm_rank.proofs.PivotLemmas.{one_row}
 use Rattle.bm_rank.proofs.EchelonLemmas.{rest_of_span, count_le}
@@ -162,11 +162,6 @@ rank-mono n us ws few short_us short_ws within =
     let d = f.is.counted in
     omega arith
 
--- a vector of the list is in its span
-in_span-at : (ws : List ℕ) (i : ℕ) → i < length ws → in_span ws (slice_index ws i) ≡ true
-in_span-at ws i l =
-    subst (λ (v : ℕ). in_span ws v ≡ true) (xor_sum-pow (slice_index ws) (length ws) i l) (in_span-sum ws (2 ^ i))
-
 -- what is in the span of short vectors is short
 in_span-short : (n : ℕ) (ws : List ℕ) → ((i : ℕ) → i < length ws → slice_index ws i < 2 ^ n) → (v : ℕ) → in_span ws v ≡ true → v < 2 ^ n
 in_span-short n ws short v inside =
@@ -178,7 +173,7 @@ pub rank-dimension : (n : ℕ) (basis ws : List ℕ) → n ≤ 52 → ((i : ℕ)
     → length basis ≡ rank ws
 rank-dimension n basis ws few short b =
     let short_basis : (i : ℕ) → i < length basis → slice_index basis i < 2 ^ n = λ i l.
-    in_span-short n ws short (slice_index basis i) (sym (b.spans (slice_index basis i)) ∙ in_span-at basis i l) in
+    in_span-short n ws short (slice_index basis i) (sym (b.spans (slice_index basis i)) ∙ in_span-member basis i l) in
     let up : rank basis ≤ rank ws = rank-mono n basis ws few short_basis short (λ v h. sym (b.spans v) ∙ h) in
     let down : rank ws ≤ rank basis = rank-mono n ws basis few short short_basis (λ v h. b.spans v ∙ h) in
     let all : rank basis ≡ length basis = rank-independent basis (record { only = b.independent }) in

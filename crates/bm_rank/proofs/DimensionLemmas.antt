@@ -4,7 +4,7 @@ use Rattle.std.specs.Int.Bits.{xor_zero_r, xor_self}
 use Rattle.std.proofs.Math.Nat.{mod-lt, two-pow-succ}
 use Rattle.std.proofs.lemmas.Nat.{pow_pos, pow_below, leading_top}
 use Rattle.std.proofs.lemmas.Nat.Bits.{bit_at-pow_other}
-use Rattle.std.proofs.lemmas.Bool.{cases_eq}
+use Rattle.std.proofs.lemmas.Bool.{cases_Bool, cases_eq}
 use Rattle.std.proofs.lemmas.Grind.{take-set_at}
 use Rattle.std.proofs.lemmas.List.{length-set}
 use Rattle.bm_gf2.specs.Vector.{xor_sum}
@@ -14,7 +14,7 @@ use Rattle.bm_gf2.specs.Matrix.{image, IsNonsingular}
 use Rattle.bm_rank.specs.Echelon.{IsRowEchelon, IsReduced, pivot_count, weight}
 use Rattle.bm_rank.specs.Span.{in_span}
 use Rattle.bm_rank.specs.Rank.{rank}
-use Rattle.bm_rank.proofs.RankLemmas.{rank-fresh, rank-known, bool_cases}
+use Rattle.bm_rank.proofs.RankLemmas.{rank-fresh, rank-known}
 use Rattle.bm_rank.proofs.RankBoundLemmas.{rank-nil, rank-le-length}
 use Rattle.bm_rank.proofs.KernelLemmas.{IsIndependent}
 use Rattle.bm_rank.specs.Echelon.{IsEchelon}
@@ -188,7 +188,7 @@ full_rank_spans n ws few h full v b =
     let more : rank (v ∷ ws) ≡ rank ws + 1 = rank-fresh v ws p in
     let le : rank (v ∷ ws) ≤ n = rank-le n (v ∷ ws) few (bounded v ws b h) in
     absurd (omega arith))
-    (bool_cases (in_span ws v))
+    (cases_Bool (in_span ws v))
   where
     bounded : (v : ℕ) (ws : List ℕ) → v < 2 ^ n → ((i : ℕ) → i < length ws → slice_index ws i < 2 ^ n)
         → (i : ℕ) → i < length (v ∷ ws) → slice_index (v ∷ ws) i < 2 ^ n
@@ -230,7 +230,7 @@ rank-independent (w ∷ ws) i =
           let db : x * 2 < 2 ^ suc (length ws) = let t = two-pow-succ (length ws) in omega arith in
           let d : x * 2 ≡ 0 = i.only (x * 2) db (sum_of_even w ws x ∙ h) in omega arith;
     })) ∙ (let e : length ws + 1 ≡ suc (length ws) = omega arith in e))
-    (bool_cases (in_span ws w))
+    (cases_Bool (in_span ws w))
 
 -- a sum of the columns is an image
 column_sum : (a : Matrix) → a.n ≤ length a.cols → (v : ℕ) → (x : ℕ) × (sum_of (take a.n a.cols) x ≡ v) → (x : ℕ) × (image a x ≡ v)

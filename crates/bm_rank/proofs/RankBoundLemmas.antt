@@ -2,7 +2,7 @@
 use Rattle.std.proofs.Common.{◌≡◌, ℕ, ◌+◌, ◌-◌, ◌/◌, ◌^◌, ◌≤◌, true, false, List, [], ◌∷◌, ◌++◌, length, take, drop, map, bit_xor, refl, sym, ap, ◌∙◌, subst, arith, inl, inr, ⊎_elim, ◌⊎◌, length-take}
 use Rattle.std.specs.Int.Bits.{xor_shr}
 use Rattle.std.proofs.lemmas.Nat.{shr-shr}
-use Rattle.std.proofs.lemmas.Bool.{false≢true}
+use Rattle.std.proofs.lemmas.Bool.{cases_Bool, false≢true}
 use Rattle.std.proofs.Math.Nat.{zero-div}
 use Rattle.std.proofs.Math.Seq.{take-add}
 use Rattle.std.proofs.lemmas.List.{map-append, length-map, length-drop}
@@ -10,7 +10,7 @@ use Rattle.std.proofs.lemmas.Simd.{map-map}
 use Rattle.bm_rank.specs.Span.{in_span}
 use Rattle.bm_rank.specs.Rank.{rank, rank_of_rows}
 use Rattle.bm_rank.proofs.SpanLemmas.{in_span-cons, in_span-cases, in_span-none, in_span-zero}
-use Rattle.bm_rank.proofs.RankLemmas.{rank-fresh, rank-known, bool_cases}
+use Rattle.bm_rank.proofs.RankLemmas.{rank-fresh, rank-known}
 
 -- one vector more adds 1 or nothing
 pub rank-step : (w : ℕ) (us : List ℕ)
@@ -19,7 +19,7 @@ rank-step w us =
     ⊎_elim
     (λ (p : in_span us w ≡ true). inl (p, rank-known w us p))
     (λ (p : in_span us w ≡ false). inr (p, rank-fresh w us p))
-    (bool_cases (in_span us w))
+    (cases_Bool (in_span us w))
 
 -- no vectors
 pub rank-nil : rank [] ≡ 0

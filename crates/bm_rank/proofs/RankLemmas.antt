@@ -1,5 +1,6 @@
 -- A rank, found from the last vector to the first.
-use Rattle.std.proofs.Common.{◌≡◌, ℕ, zero, suc, ◌+◌, ◌-◌, ◌/◌, ◌^◌, ◌<◌, ◌≤◌, Bool, true, false, not, if◌then◌else◌, List, [], ◌∷◌, ◌++◌, length, take, drop, get_or, slice_index, refl, sym, ap, ◌∙◌, subst, arith, inl, inr, ⊎_elim, ◌⊎◌, drop-cons, get_or-take, length-take}
+use Rattle.std.proofs.Common.{◌≡◌, ℕ, zero, suc, ◌+◌, ◌-◌, ◌/◌, ◌^◌, ◌<◌, ◌≤◌, Bool, true, false, not, if◌then◌else◌, List, [], ◌∷◌, ◌++◌, length, take, drop, get_or, slice_index, refl, sym, ap, ◌∙◌, subst, arith, ⊎_elim, drop-cons, get_or-take, length-take}
+use Rattle.std.proofs.lemmas.Bool.{cases_Bool}
 use Rattle.std.proofs.lemmas.List.{get_or-map, length-map}
 use Rattle.bm_rank.specs.Span.{in_span}
 use Rattle.bm_rank.specs.Rank.{rank, cut_columns}
@@ -19,11 +20,6 @@ rank-fresh w us h = rw h refl
 pub rank-known : (w : ℕ) (us : List ℕ) → in_span us w ≡ true → rank (w ∷ us) ≡ rank us
 unfolding rank
 rank-known w us h = rw h (let e : rank us + 0 ≡ rank us = omega arith in e)
-
--- a test holds or not
-pub bool_cases : (b : Bool) → (b ≡ true) ⊎ (b ≡ false)
-bool_cases true = inl refl
-bool_cases false = inr refl
 
 -- one vector more, from its place in the list
 pub ranked_more : (ws : List ℕ) (j : ℕ) (kept kept2 : List ℕ) (r w : ℕ) (b : Bool) → IsRanked ws (suc j) kept r → j < length ws
@@ -51,7 +47,7 @@ ranked_more ws j kept kept2 r w b s l we be ke =
       spans = λ v. ap (λ (k : List ℕ). in_span k v) k1 ∙ in_span-push w kept v ∙ in_span-cons_same w kept us s.spans v
           ∙ ap (λ (k : List ℕ). in_span k v) (sym cut);
     }))
-    (bool_cases (in_span kept w))
+    (cases_Bool (in_span kept w))
 
 -- nothing is left past the end
 drop_past : (ws : List ℕ) (j : ℕ) → length ws ≤ j → drop j ws ≡ []

@@ -5,15 +5,13 @@ use Rattle.std.specs.Int.Bits.{xor_self, xor_zero_r}
 use Rattle.std.proofs.lemmas.Nat.{xor_lt, pow_below, pow_pos, one_shl}
 use Rattle.std.proofs.Math.Nat.{pow-le-pow_right, two-pow-succ}
 use Rattle.std.proofs.lemmas.Nat.Bits.{bit_at-lt}
-use Rattle.std.proofs.lemmas.List.{get_or_append_left}
-use Rattle.std.proofs.Math.Seq.{get_or-append_seam}
 use Rattle.std.proofs.lemmas.Bool.{cases_lt, false≢true}
 use Rattle.bm_gf2.specs.Vector.{xor_sum}
 use Rattle.bm_gf2.proofs.VectorLemmas.{xor_pow_above, xor_sum-xor, xor_sum-zero, xor_sum-pow, xor_sum-more, xor_sum-xor_sum, xor_sum-ext, xor_sum-lt, xor_sum_start, bit_cases, xor_same, eq_of_xor-zero, xor_cancel, xor_cancel_right}
 use Rattle.bm_rank.specs.RowSolution.{IsLeastSplit}
 use Rattle.bm_rank.specs.Span.{in_span}
 use Rattle.bm_rank.specs.Span.{sum_of}
-use Rattle.bm_rank.proofs.SpanLemmas.{false_from, in_span-sum, in_span-zero, in_span-xor, in_span-push, in_span-cons}
+use Rattle.bm_rank.proofs.SpanLemmas.{kept_old, kept_last, false_from, in_span-sum, in_span-zero, in_span-xor, in_span-push, in_span-cons}
 
 -- the first j columns: `lows` of m, what was kept of them, and the vectors that give what was kept
 pub record IsSolving (lows highs : ℕ → ℕ) (m j : ℕ) (kept : List ℕ) (units : ℕ → ℕ) : Type 0 where
@@ -34,14 +32,6 @@ halves y j h =
     let rb : r < 2 ^ j = omega arith in
     inr (r, rb, (let d : y ≡ 2 ^ j + r = omega arith in d ∙ sym (xor_pow_above r j rb)), omega arith))
     (cases_lt y (2 ^ j))
-
--- an earlier vector
-kept_old : (kept : List ℕ) (w k : ℕ) → k < length kept → slice_index (kept ++ w ∷ []) k ≡ slice_index kept k
-kept_old kept w k h = get_or_append_left kept (w ∷ []) 0 k h
-
--- the last one
-kept_last : (kept : List ℕ) (w : ℕ) → slice_index (kept ++ w ∷ []) (length kept) ≡ w
-kept_last kept w = get_or-append_seam kept w [] 0
 
 module _ (lows highs : ℕ → ℕ) (m j : ℕ) (kept : List ℕ) (units : ℕ → ℕ) (s : IsSolving lows highs m j kept units) (l : j < m) where
   -- what a vector with the top bit j is sent to

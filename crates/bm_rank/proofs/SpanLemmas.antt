@@ -1,13 +1,15 @@
 -- Laws of spans.
-use Rattle.std.proofs.Common.{◌≡◌, ℕ, suc, ◌+◌, ◌*◌, ◌/◌, ◌%◌, ◌≤◌, Bool, true, false, List, [], ◌∷◌, ◌++◌, length, length-take, take, get_or-take, slice_index, ◌||◌, bit_xor, refl, sym, ap, ◌∙◌, subst, arith, inl, inr, ⊎_elim, ◌⊎◌}
+use Rattle.std.proofs.Common.{◌≡◌, ℕ, suc, ◌+◌, ◌*◌, ◌/◌, ◌%◌, ◌^◌, ◌<◌, ◌≤◌, Bool, true, false, List, [], ◌∷◌, ◌++◌, length, length-take, take, get_or-take, slice_index, ◌||◌, bit_xor, refl, sym, ap, ◌∙◌, subst, arith, inl, inr, ⊎_elim, ◌⊎◌}
 use Rattle.std.specs.Int.{bit_at}
 use Rattle.std.specs.Int.Bits.{xor_assoc}
 use Rattle.std.proofs.lemmas.Nat.{xor_comm}
 use Rattle.std.proofs.lemmas.Nat.Bits.{bit_at-lt, bit_at_lowest}
 use Rattle.std.proofs.lemmas.Bool.{or_cases, eqb-true}
+use Rattle.std.proofs.lemmas.List.{get_or_append_left}
+use Rattle.std.proofs.Math.Seq.{get_or-append_seam}
 use Rattle.std.proofs.Math.Numerals.{one-add}
 use Rattle.bm_gf2.specs.Vector.{xor_sum}
-use Rattle.bm_gf2.proofs.VectorLemmas.{xor_sum-split, xor_sum-xor, xor_sum-more, xor_sum_start, xor_sum-ext, bit_cases, xor_same, xor_cancel_right, zero_times}
+use Rattle.bm_gf2.proofs.VectorLemmas.{xor_sum-split, xor_sum-xor, xor_sum-more, xor_sum_start, xor_sum-pow, xor_sum-ext, bit_cases, xor_same, xor_cancel_right, zero_times}
 use Rattle.bm_rank.specs.Span.{in_span, sum_of}
 
 -- the vectors after the first
@@ -166,3 +168,15 @@ sum_of-take ws k x l =
     let e : length (take k ws) ≡ k = simp length-take (omega arith) in
     ap (λ (m : ℕ). xor_sum (slice_index (take k ws)) m x) e
     ∙ xor_sum-ext (slice_index (take k ws)) (slice_index ws) k x (λ j h. rw get_or-take refl)
+
+-- each vector of a list is in its span
+pub in_span-member : (ws : List ℕ) (i : ℕ) → i < length ws → in_span ws (slice_index ws i) ≡ true
+in_span-member ws i l = subst (λ (v : ℕ). in_span ws v ≡ true) (xor_sum-pow (slice_index ws) (length ws) i l) (in_span-sum ws (2 ^ i))
+
+-- the vectors before one that was kept last
+pub kept_old : (kept : List ℕ) (w k : ℕ) → k < length kept → slice_index (kept ++ w ∷ []) k ≡ slice_index kept k
+kept_old kept w k l = get_or_append_left kept (w ∷ []) 0 k l
+
+-- and that one
+pub kept_last : (kept : List ℕ) (w : ℕ) → slice_index (kept ++ w ∷ []) (length kept) ≡ w
+kept_last kept w = get_or-append_seam kept w [] 0

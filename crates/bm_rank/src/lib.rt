@@ -1,4 +1,5 @@
 //! Ranks, inverses, kernels and solutions of matrices over GF(2), by elimination.
+
 #![tactic(auto)]
 
 mod column_rank;
