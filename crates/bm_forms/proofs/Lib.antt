@@ -10,3 +10,4 @@ pub mod PassFormLemmas
 pub mod PlanLemmas
 pub mod RoundPlanLemmas
 pub mod PassLimitLemmas
+pub mod PassCountLemmas

@@ -5,7 +5,8 @@ use Rattle.std.proofs.Math.Nat.{add-mul, add-div_right, pow-suc, mod-eq_of_lt}
 use Rattle.std.specs.Int.{bit_at}
 use Rattle.bm_base.specs.Butterfly.{negative}
 use Rattle.bm_forms.specs.Transform.{sum_below, signed}
-use Rattle.bm_forms.proofs.TransformLemmas.{none_in_zero, if_same, sum_below-same, sum_below-split, sum_below-against, sum_below-one, and_low, and_high, signed-same, signed-against}
+use Rattle.bm_base.proofs.CaseLemmas.{if_same, plus_same}
+use Rattle.bm_forms.proofs.TransformLemmas.{none_in_zero, sum_below-same, sum_below-split, sum_below-against, sum_below-one, and_low, and_high, signed-same, signed-against}
 use Rattle.bm_gf2.proofs.VectorLemmas.{zero_times}
 use Rattle.bm_base.proofs.ButterflyLemmas.{set_bit}
 
@@ -38,10 +39,6 @@ twice r = ap (λ (c : ℕ). 2 ^ c) (let e : r + 1 ≡ suc r = omega arith in e) 
 -- 0 and a number
 none_plus : (c : ℕ) → 0 + c ≡ c
 none_plus c = omega arith
-
--- sums of equals
-plus_same : {a b c d : ℕ} → a ≡ c → b ≡ d → a + b ≡ c + d
-plus_same p q = cc
 
 -- k cut below bit r, by k cut below bit r + 1
 cut_more : (k r : ℕ) → k / 2 ^ r * 2 ^ r ≡ k / 2 ^ (r + 1) * 2 ^ (r + 1) + bit_at k r * 2 ^ r

@@ -8,7 +8,7 @@ use Rattle.std.proofs.Math.Nat.{mul-le-mul_left, mul-le-mul_right, add-mul, mul-
 use Rattle.std.specs.Int.{div_ceil}
 use Rattle.bm_rank.specs.Rank.{rank, cut_columns, rank_of_rows}
 use Rattle.bm_rank.proofs.RankBoundLemmas.{rank-le-length}
-use Rattle.bm_forms.specs.PassLimit.{rotation_columns}
+use Rattle.bm_forms.specs.Rounds.{rotation_columns}
 
 -- rounded up, it is no more than the number
 pub ceil_le : (x y : ℕ) → 0 < y → div_ceil x y ≤ x
@@ -24,6 +24,21 @@ ceil_le x (suc z) h =
     absurd (omega arith))
     (λ (p : div_ceil x (suc z) ≤ x). p)
     (cases_lt x (div_ceil x (suc z)))
+
+-- rounded up, k more is at most one more
+pub ceil_more : (x y k : ℕ) → 0 < k → x ≤ y + k → div_ceil x k ≤ div_ceil y k + 1
+ceil_more x y k pos le =
+    ⊎_elim
+    (λ (p : div_ceil y k + 1 < div_ceil x k).
+    let t = div_ceil_times x k pos in
+    let u = div_ceil_times y k pos in
+    let over : div_ceil x k * k < x + k = t.1 in
+    let under : y ≤ div_ceil y k * k = u.0 in
+    let m : (div_ceil y k + 2) * k ≤ div_ceil x k * k = mul-le-mul_right k (omega arith) in
+    let e : (div_ceil y k + 2) * k ≡ div_ceil y k * k + 2 * k = add-mul (div_ceil y k) 2 k in
+    absurd (omega arith))
+    (λ (p : div_ceil x k ≤ div_ceil y k + 1). p)
+    (cases_lt (div_ceil y k + 1) (div_ceil x k))
 
 -- a limit's rank
 pub cut_rank_le : (cols : List ℕ) (b : ℕ) → rank_of_rows cols b b ≤ b

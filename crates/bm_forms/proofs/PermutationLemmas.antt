@@ -17,7 +17,7 @@ use Rattle.bm_rank.proofs.RowCutLemmas.{image_below}
 use Rattle.bm_rank.proofs.DimensionLemmas.{nonsingular_reaches}
 use Rattle.bm_base.specs.Records.{SameRecords}
 use Rattle.bm_forms.specs.Permutation.{source_below, source, permuted}
-use Rattle.bm_forms.proofs.TransformLemmas.{if_same, if_other}
+use Rattle.bm_base.proofs.CaseLemmas.{if_same, if_other}
 
 -- the search finds an address where there is one
 pub source_below-found : (f : Affine) (k x y : ℕ) → x < k → affine_image f x ≡ y → affine_image f (source_below f k y) ≡ y

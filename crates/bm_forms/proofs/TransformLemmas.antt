@@ -1,6 +1,6 @@
 -- Signed sums, modulo 2 ^ 64, of which the transform is made.
-use Rattle.std.proofs.Common.{ℕ, zero, suc, ◌≡◌, ◌≢◌, ◌+◌, ◌*◌, ◌/◌, ◌%◌, ◌^◌, ◌<◌, true, false, if◌then◌else◌, ◌==◌, bit_and, count_ones, refl, sym, ap, ◌∙◌, arith, ⊎_elim}
-use Rattle.std.proofs.lemmas.Bool.{cases_eq, eq-eqb, ne_eqb}
+use Rattle.std.proofs.Common.{ℕ, zero, suc, ◌≡◌, ◌≢◌, ◌+◌, ◌*◌, ◌/◌, ◌%◌, ◌^◌, ◌<◌, bit_and, count_ones, refl, sym, ap, ◌∙◌, arith, ⊎_elim}
+use Rattle.std.proofs.lemmas.Bool.{cases_eq}
 use Rattle.std.proofs.lemmas.Nat.{pow_pos, ones_le_self, and_block, and_le_r, shr_split}
 use Rattle.std.proofs.Math.Nat.{add-suc, mod-lt, pow-suc}
 use Rattle.std.proofs.lemmas.Nat.Bits.{bit_at-lt, shr_and_one}
@@ -8,16 +8,9 @@ use Rattle.std.specs.Int.{bit_at}
 use Rattle.std.specs.Int.Count.{ones_step}
 use Rattle.bm_base.specs.Butterfly.{negative, number_in, record_of}
 use Rattle.std.specs.Int.Count.{ones}
+use Rattle.bm_base.proofs.CaseLemmas.{if_same, if_other}
 use Rattle.bm_forms.specs.Transform.{sum_below, signed, transformed}
 use Rattle.bm_gf2.proofs.VectorLemmas.{zero_times}
-
--- the choice where both are equal
-pub if_same : {A : Type 0} (a b : ℕ) (x y : A) → a ≡ b → (if a == b then x else y) ≡ x
-if_same a b x y h = let e : (a == b) ≡ true = eq-eqb a b h in rw e refl
-
--- and where they are not
-pub if_other : {A : Type 0} (a b : ℕ) (x y : A) → (a ≡ b → ⊥) → (if a == b then x else y) ≡ y
-if_other a b x y h = let e : (a == b) ≡ false = ne_eqb a b h in rw e refl
 
 -- ---- sums
 

@@ -1,7 +1,10 @@
 pub mod Mld
+pub mod MldTest
 pub mod Permutation
 pub mod Transform
 pub mod Job
 pub mod PassForm
+pub mod Rounds
+pub mod PassCount
 pub mod PassLimit
 pub mod Plan

@@ -13,8 +13,8 @@ pub record PlanValue : Type 0 where
   pub shape : Shape
   pub forms : List PassForm
 
--- at most 256 passes, each of the shape
-pub record IsPlan (s : Shape) (forms : List PassForm) : Type 0 where
+-- at most 256 passes, each of the shape: what a plan holds
+pub record ArePassesOf (s : Shape) (forms : List PassForm) : Type 0 where
   pub few : length forms ≤ 256
   pub of_shape : All (IsOfShape s) forms
 

@@ -5,26 +5,28 @@ ghost use Rattle.bm_forms.specs.PassLimit.{map_limit, rotation_limit, limit_of};
 ghost use Rattle.bm_forms.specs.Job.{HasBits};
 
 use crate::job::Job;
+use crate::rounds::{last_bits, round_count};
 use bm_base::Shape;
 use bm_gf2::Matrix;
+use bm_rank::rank_of;
 
-// The limit of the permutation by one matrix.
-fn limit_for(shape: &Shape, a: &Matrix) -> u16
+/// The most passes that the permutation by a matrix takes: the rank of rows b to n-1 of columns 0
+/// to b-1, over lg(M/B) and rounded up, and 2.
+pub fn map_limit(shape: &Shape, a: &Matrix) -> u8
     requires { a.now.n ≡ shape.now.n }
     ensures limit { result ≡ map_limit a.now.cols shape.now.b shape.now.m }
     ensures few { result ≤ shape.now.b + 2 }
 {
-    let rank = bm_rank::rank_of(a, shape.b(), shape.b());
-    u16::from(rank.div_ceil(shape.m() - shape.b())) + 2
+    rank_of(a, shape.b(), shape.b()).div_ceil(shape.m() - shape.b()) + 2
 }
 
 // The limit of the rotation by `by`.
-fn limit_by_rotation(shape: &Shape, by: u8) -> u16
+fn rotation_limit(shape: &Shape, by: u8) -> u8
     requires by { by ≤ shape.now.n }
     ensures limit { result ≡ rotation_limit shape.now by }
     ensures few { result ≤ shape.now.b + 2 }
 {
-    limit_for(shape, &Matrix::rotation(shape.n(), by))
+    map_limit(shape, &Matrix::rotation(shape.n(), by))
 }
 
 /// The most passes that the job's plan has, 256 at most.
@@ -38,11 +40,11 @@ pub fn pass_limit(shape: &Shape, job: &Job) -> u16
     ensures few { result ≤ 256 }
 {
     match job {
-        Job::Permute(map) => limit_for(shape, &map.a),
+        Job::Permute(map) => u16::from(map_limit(shape, &map.a)),
         Job::Walsh => {
-            let before = shape.n().div_ceil(shape.m()) - 1;
-            let last = shape.n() - before * shape.m();
-            u16::from(before) * limit_by_rotation(shape, shape.m()) + limit_by_rotation(shape, last)
+            let whole = rotation_limit(shape, shape.m());
+            let last = rotation_limit(shape, last_bits(shape));
+            u16::from(round_count(shape) - 1) * u16::from(whole) + u16::from(last)
         }
     }
 }

@@ -13,8 +13,8 @@ use bm_rank::{cut_rows, kernel_least, solve_rows};
 /// An affine map that one pass can do: its matrix is nonsingular, and rows m to n-1 of the image of
 /// a vector below `2 ^ m` are a linear map k of rows b to m-1.
 ///
-/// So a memory load fills whole blocks of its target loads. The class is that of the MLD matrices of
-/// Cormen, Sundquist and Wisniewski, in our own wording.
+/// So a memory load fills whole blocks of its target loads. The class is that of the MLD matrices
+/// of Cormen, Sundquist and Wisniewski, in our own wording.
 #[derive(Clone, Copy, Debug, PartialEq, Eq)]
 pub struct MldForm {
     map: Affine,
@@ -44,7 +44,8 @@ impl MldForm {
     pub fn of(shape: &Shape, map: &Affine) -> Result<MldForm, FormError>
         requires { map.now.a.n ≡ shape.now.n }
         ensures exact { IsOk result ↔ IsMld map.now.a shape.now.b shape.now.m }
-        ensures form { IfOk result (λ f. (f.map ≡ map.now) × (f.b ≡ shape.now.b) × (f.m ≡ shape.now.m)) }
+        ensures form { IfOk result (λ f. (f.map ≡ map.now)
+            × (f.b ≡ shape.now.b) × (f.m ≡ shape.now.m)) }
         ensures error { IfErr result (λ e. FormErrorIs map.now.a shape.now.b shape.now.m e) }
     {
         if let Some(x) = kernel_least(&map.a) {
@@ -92,7 +93,8 @@ impl MldForm {
         ensures loads { (i : ℕ) → i < 2 ^ self.now.m
             → affine_image self.now.map (2 ^ self.now.m * load + i) / 2 ^ self.now.m
             ≡ spread_value result
-            (affine_image self.now.map (2 ^ self.now.m * load + i) % 2 ^ self.now.m / 2 ^ self.now.b) }
+            (affine_image self.now.map (2 ^ self.now.m * load + i)
+            % 2 ^ self.now.m / 2 ^ self.now.b) }
         ensures below { (t : ℕ) → spread_value result t < 2 ^ (self.now.map.a.n - self.now.m) }
     {
         let from = self.map.apply(load << self.m);

@@ -16,13 +16,13 @@ pub struct Plan {
 }
 
 impl Model for Plan {
-    ghost use Rattle.bm_forms.specs.Plan.{PlanValue, IsPlan};
+    ghost use Rattle.bm_forms.specs.Plan.{PlanValue, ArePassesOf};
 
     ghost Value = { PlanValue };
 
     ghost view = { λ p. record { shape = p.shape; forms = p.forms.items } };
 
-    ghost invariant = { λ p. IsPlan p.shape p.forms.items };
+    ghost invariant = { λ p. ArePassesOf p.shape p.forms.items };
 }
 
 impl Plan {

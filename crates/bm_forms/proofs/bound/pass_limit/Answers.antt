@@ -1,14 +1,11 @@
-use Rattle.std.proofs.Common.{◌∙◌, ap, ℕ, ◌-◌}
-use Rattle.std.specs.Int.{div_ceil}
+use Rattle.std.proofs.Common.{◌∙◌, ap, ℕ, ◌-◌, arith}
 use Rattle.bm_forms.proofs.PassLimitLemmas.{rounds_few}
 use Rattle.bm_forms.proofs.bound.pass_limit.Goals as goal
 
--- src/limit.rt:29:1
 pub returns-in-Walsh-clause-few : goal.returns-in-Walsh-clause-few
 returns-in-Walsh-clause-few c =
-    let k = c.args.shape.now.keeps in
-    let before = c.from.ensures ∙ ap (λ (x : ℕ). x - 1)
-    (c.div_ceil-before.ensures ∙ ap (λ (x : ℕ). div_ceil x c.m.result) c.n.ensures
-    ∙ ap (λ (y : ℕ). div_ceil c.args.shape.now.n y) c.m.ensures) in
-    rounds_few c.args.shape.now.n c.args.shape.now.m c.args.shape.now.b c.from.result c.limit_by_rotation.result c.limit_by_rotation-in-Walsh.result k.block k.memory k.addresses
-    before c.limit_by_rotation.ensures.few c.limit_by_rotation-in-Walsh.ensures.few
+    let s = c.args.shape.now in
+    rounds_few s.n s.m s.b _ _ _ s.keeps.block s.keeps.memory s.keeps.addresses
+    (c.from-in-Walsh.ensures ∙ ap (λ (x : ℕ). x - 1) c.round_count.ensures.rounds)
+    (omega (arith, c.from-in-Walsh-2.ensures, c.rotation_limit-whole.ensures.few))
+    (omega (arith, c.from-in-Walsh-3.ensures, c.rotation_limit-last.ensures.few))
