@@ -9,14 +9,6 @@ use Rattle.bm_gf2.specs.Matrix.{image, column}
 use Rattle.bm_gf2.proofs.VectorLemmas.{xor_sum-xor, xor_sum-pow, xor_sum-xor_sum, xor_sum-ext, xor_sum-units, xor_sum-above, bit_cases, xor_same, xor_cancel, zero_times}
 use Rattle.bm_factor.specs.Columns.{IsOwnInverse}
 
--- a sum of zeros
-pub xor_sum-zeros : (w : ℕ → ℕ) (k x : ℕ) → ((i : ℕ) → i < k → w i ≡ 0) → xor_sum w k x ≡ 0
-unfolding xor_sum
-xor_sum-zeros w zero x h = refl
-xor_sum-zeros w (suc k) x h =
-    xor_same (xor_sum-zeros w k x (λ i l. h i (omega arith)))
-    (ap (λ (c : ℕ). bit_at x k * c) (h k (omega arith)) ∙ (let e : bit_at x k * 0 ≡ 0 = omega arith in e))
-
 -- the columns that are picked decide
 pub xor_sum-picked : (v w : ℕ → ℕ) (k x : ℕ) → ((j : ℕ) → j < k → bit_at x j ≡ 1 → v j ≡ w j) → xor_sum v k x ≡ xor_sum w k x
 unfolding xor_sum

@@ -11,14 +11,14 @@ use Rattle.bm_gf2.specs.declared.matrix.Matrix.{Matrix}
 use Rattle.bm_gf2.specs.Matrix.{image, column}
 use Rattle.bm_gf2.proofs.VectorLemmas.{xor_sum-zero, xor_sum-xor, xor_sum-pow, xor_sum-shr, xor_sum-mod, xor_sum-ext, xor_sum-bits, xor_sum-above, xor_sum-units, xor_sum-split, xor_sum-low, xor_pow_above, xor_same}
 use Rattle.bm_rank.specs.Span.{in_span, sum_of}
-use Rattle.bm_rank.proofs.SpanLemmas.{sum_of_span, false_from}
+use Rattle.bm_rank.proofs.SpanLemmas.{kept_old, kept_last, sum_of_span, false_from}
 use Rattle.bm_rank.proofs.RowCutLemmas.{middle_of_low}
 use Rattle.bm_forms.specs.Mld.{IsMld}
 use Rattle.bm_forms.proofs.MldLemmas.{nonsingular_of_involution, below_of_none}
 use Rattle.bm_factor.specs.Columns.{product, HasTrailingBlock, IsOwnInverse}
 use Rattle.bm_factor.specs.Eraser.{IsEraser, AddsTrailing}
 use Rattle.bm_factor.proofs.ColumnLemmas.{xor_sum-picked, own_inverse, unit_back, added_back, unchanged_low}
-use Rattle.bm_factor.proofs.InsertLemmas.{insert_done, kept_old, kept_last}
+use Rattle.bm_factor.proofs.InsertLemmas.{insert_done}
 
 -- ---- the columns from m on
 

@@ -22,7 +22,7 @@ use Rattle.bm_forms.proofs.PassFormLemmas.{fits_of_shape}
 use Rattle.bm_forms.proofs.PermutationLemmas.{affine-lt}
 use Rattle.bm_forms.proofs.PlanLemmas.{route, route-append, IsPlainOf, plain_do}
 use Rattle.bm_factor.specs.Columns.{top_count, HasTrailingBlock}
-use Rattle.bm_factor.specs.Factoring.{IsSplit, AppendsPass, AreWithoutButterflies, AreLinearButLast}
+use Rattle.bm_factor.specs.Factoring.{IsFactored, AppendsPass, AreWithoutButterflies, AreLinearButLast}
 use Rattle.bm_factor.proofs.TopCountLemmas.{none_counted}
 
 -- the map of one more pass
@@ -53,7 +53,7 @@ pub record IsFactoring (s : Shape) (a rest done : Matrix) (rank i : ℕ) (forms 
   pub state : ((i ≡ 0) × ((x : ℕ) → route forms x ≡ x)) ⊎ ((x : ℕ) → x < 2 ^ s.n → image done x ≡ x)
 
 -- no round yet
-pub factoring_none : (s : Shape) (a rest done : Matrix) (rank : ℕ) (forms : List PassForm) → a.n ≡ s.n → forms ≡ [] → IsSplit a rest done
+pub factoring_none : (s : Shape) (a rest done : Matrix) (rank : ℕ) (forms : List PassForm) → a.n ≡ s.n → forms ≡ [] → IsFactored a rest done
     → ((x : ℕ) → x < 2 ^ s.m → image done x < 2 ^ s.m) → HasTrailingBlock (column rest) a.n s.m
     → top_count (column rest) s.m s.m ≡ rank → IsFactoring s a rest done rank 0 forms
 factoring_none s a rest done rank forms an none split stays trailing count =
@@ -77,7 +77,7 @@ factoring_none s a rest done rank forms an none split stays trailing count =
 
 -- the pass of a round is MLD
 pub round_mld : (s : Shape) (a rest done rest2 done2 p : Matrix) (rank i : ℕ) (forms : List PassForm)
-    → IsFactoring s a rest done rank i forms → IsSplit rest rest2 done2 → IsCovered done2 s.b s.m → p.n ≡ done2.n
+    → IsFactoring s a rest done rank i forms → IsFactored rest rest2 done2 → IsCovered done2 s.b s.m → p.n ≡ done2.n
     → ((x : ℕ) → image p x ≡ image done2 (image done x)) → IsMld p s.b s.m
 round_mld s a rest done rest2 done2 p rank i forms f split covered pn comp = (
   nonsingular_after done2 done p (sym pn)
@@ -102,7 +102,7 @@ route_appended s forms forms2 f x more =
 
 -- one round more
 pub factoring_more : (s : Shape) (a rest done rest2 done2 p id : Matrix) (rank i : ℕ) (forms forms2 : List PassForm) (f : Affine)
-    → IsFactoring s a rest done rank i forms → IsSplit rest rest2 done2 → p.n ≡ done2.n
+    → IsFactoring s a rest done rank i forms → IsFactored rest rest2 done2 → p.n ≡ done2.n
     → ((x : ℕ) → image p x ≡ image done2 (image done x)) → HasTrailingBlock (column rest2) rest.n s.m
     → top_count (column rest2) s.m s.m ≡ top_count (column rest) s.m s.m - (s.m - s.b)
     → AppendsPass s forms forms2 f → f.a ≡ p → f.c ≡ 0 → id.n ≡ s.n → ((x : ℕ) → x < 2 ^ s.n → image id x ≡ x)

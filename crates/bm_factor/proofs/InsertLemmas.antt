@@ -1,16 +1,14 @@
 -- Vectors that are kept or refused, and spans of those that were kept.
-use Rattle.std.proofs.Common.{◌≡◌, ℕ, zero, suc, ◌+◌, ◌-◌, ◌*◌, ◌/◌, ◌^◌, ◌<◌, ◌≤◌, Bool, true, false, not, if◌then◌else◌, List, [], ◌∷◌, ◌++◌, length, slice_index, bit_xor, refl, sym, ◌∙◌, subst, arith, add-one, ⊎_elim}
+use Rattle.std.proofs.Common.{◌≡◌, ℕ, zero, suc, ◌+◌, ◌-◌, ◌*◌, ◌/◌, ◌^◌, ◌<◌, ◌≤◌, Bool, true, false, not, if◌then◌else◌, List, [], ◌∷◌, ◌++◌, bit_xor, refl, sym, ◌∙◌, subst, arith, add-one, ⊎_elim}
 use Rattle.std.specs.Int.{bit_at}
 use Rattle.std.proofs.lemmas.Nat.{shr_below}
 use Rattle.std.proofs.lemmas.Nat.Bits.{bit_at-lt}
-use Rattle.std.proofs.lemmas.Bool.{false≢true}
-use Rattle.std.proofs.lemmas.List.{get_or_append_left}
-use Rattle.std.proofs.Math.Seq.{get_or-append_seam}
+use Rattle.std.proofs.lemmas.Bool.{false≢true, cases_Bool}
 use Rattle.bm_gf2.specs.Vector.{xor_sum}
-use Rattle.bm_gf2.proofs.VectorLemmas.{xor_sum-pow, xor_sum_start, xor_sum-more, bit_cases, xor_cancel}
+use Rattle.bm_gf2.proofs.VectorLemmas.{xor_sum_start, xor_sum-more, bit_cases, xor_cancel}
 use Rattle.bm_rank.specs.Span.{in_span}
-use Rattle.bm_rank.proofs.SpanLemmas.{in_span-sum, in_span-xor, in_span-zero}
-use Rattle.bm_rank.proofs.RankLemmas.{bool_cases}
+pub use Rattle.bm_rank.proofs.SpanLemmas.{in_span-member}
+use Rattle.bm_rank.proofs.SpanLemmas.{in_span-xor, in_span-zero}
 
 -- numbers below 2 ^ n, without the rows below m
 pub cut_below : (n m x : ℕ) → m ≤ n → x < 2 ^ n → x / 2 ^ m < 2 ^ (n - m)
@@ -30,10 +28,6 @@ in_span-xor_sum ws w (suc k) x h =
     (λ (p : (bit_at x k ≡ 1) × (bit_at x k * w k ≡ w k)). subst (λ (v : ℕ). in_span ws v ≡ true) (sym p.1) (h k (omega arith) p.0))
     (bit_cases (bit_at x k) (w k) (bit_at-lt x k))))
 
--- each vector of a list is in its span
-pub in_span-member : (ws : List ℕ) (i : ℕ) → i < length ws → in_span ws (slice_index ws i) ≡ true
-in_span-member ws i l = subst (λ (v : ℕ). in_span ws v ≡ true) (xor_sum-pow (slice_index ws) (length ws) i l) (in_span-sum ws (2 ^ i))
-
 -- a member and no member add up to no member
 pub no_member : (ws : List ℕ) (u v : ℕ) → in_span ws u ≡ true → in_span ws v ≡ false → in_span ws (bit_xor u v) ≡ false
 no_member ws u v p q =
@@ -41,7 +35,7 @@ no_member ws u v p q =
     (λ (h : in_span ws (bit_xor u v) ≡ true). absurd
     (false≢true (sym q ∙ subst (λ (x : ℕ). in_span ws x ≡ true) (xor_cancel u v) (in_span-xor ws u (bit_xor u v) p h))))
     (λ (h : in_span ws (bit_xor u v) ≡ false). h)
-    (bool_cases (in_span ws (bit_xor u v)))
+    (cases_Bool (in_span ws (bit_xor u v)))
 
 -- a vector that is refused is in the span
 pub insert_known : (s b : Bool) → b ≡ not s → b ≡ false → s ≡ true
@@ -61,11 +55,3 @@ insert_done kept kept2 w s b e k h = let t : b ≡ true = e ∙ rw h refl in k �
 -- where one is refused nothing changes
 pub insert_same : (kept kept2 : List ℕ) (w : ℕ) (b : Bool) → kept2 ≡ (if b then kept ++ w ∷ [] else kept) → b ≡ false → kept2 ≡ kept
 insert_same kept kept2 w b k h = k ∙ rw h refl
-
--- the vectors before the last
-pub kept_old : (kept : List ℕ) (w k : ℕ) → k < length kept → slice_index (kept ++ w ∷ []) k ≡ slice_index kept k
-kept_old kept w k l = get_or_append_left kept (w ∷ []) 0 k l
-
--- the last vector
-pub kept_last : (kept : List ℕ) (w : ℕ) → slice_index (kept ++ w ∷ []) (length kept) ≡ w
-kept_last kept w = get_or-append_seam kept w [] 0

@@ -4,9 +4,10 @@ pub mod InsertLemmas
 pub mod TrailerLemmas
 pub mod ReducerLemmas
 pub mod ReducerTurnLemmas
+pub mod ColumnOrderLemmas
 pub mod SwapperLemmas
 pub mod SwapperTurnLemmas
 pub mod EraserLemmas
-pub mod SplitLemmas
+pub mod FactoredLemmas
 pub mod FactoringLemmas
 pub mod PassCountLemmas

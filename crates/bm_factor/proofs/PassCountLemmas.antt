@@ -1,9 +1,6 @@
 -- A plan of one pass, and the number of passes.
-use Rattle.std.proofs.Common.{◌≡◌, ℕ, ◌+◌, ◌-◌, ◌*◌, ◌<◌, ◌≤◌, List, [], length, Result, Ok, Err, IfOk, MatchResult, IsErrAnd, sym, ap, ◌∙◌, subst, arith, ⊎_elim}
+use Rattle.std.proofs.Common.{◌≡◌, ℕ, ◌+◌, ◌-◌, ◌<◌, ◌≤◌, List, [], length, Result, Ok, Err, IfOk, MatchResult, IsErrAnd, sym, ap, ◌∙◌, subst, arith}
 use Rattle.std.specs.Int.{div_ceil}
-use Rattle.std.proofs.Math.Nat.{mul-le-mul_right, add-mul}
-use Rattle.std.proofs.lemmas.Bool.{cases_lt}
-use Rattle.std.proofs.lemmas.Grind.{div_ceil_times}
 use Rattle.std.proofs.lemmas.List.Elements.{All-nil}
 use Rattle.bm_base.specs.declared.shape.Shape.{Shape}
 use Rattle.bm_gf2.specs.declared.matrix.Matrix.{Matrix}
@@ -19,6 +16,7 @@ use Rattle.bm_forms.specs.declared.mld_form.FormError.TheVariants.{NotMld}
 use Rattle.bm_forms.specs.Mld.{FormErrorIs}
 use Rattle.bm_forms.specs.PassLimit.{map_limit}
 use Rattle.bm_forms.specs.Plan.{PlanValue, DoJob, StandsFor}
+use Rattle.bm_forms.proofs.PassLimitLemmas.{ceil_more}
 use Rattle.bm_forms.proofs.PermutationLemmas.{nonsingular_long}
 use Rattle.bm_forms.proofs.PlanLemmas.{route, IsPlainOf, plain_do}
 use Rattle.bm_factor.specs.Factoring.{AppendsPass}
@@ -35,21 +33,6 @@ one_does s map f forms more fe size na =
     (λ x h. route_appended s [] forms f x more ∙ ap (λ (g : Affine). affine_image g (route [] x)) fe ∙ ap (affine_image map) (route_none x))
 
 -- ---- the pass limit
-
--- rounded up, k more is at most one more
-ceil_more : (x y k : ℕ) → 0 < k → x ≤ y + k → div_ceil x k ≤ div_ceil y k + 1
-ceil_more x y k pos le =
-    ⊎_elim
-    (λ (p : div_ceil y k + 1 < div_ceil x k).
-    let t = div_ceil_times x k pos in
-    let u = div_ceil_times y k pos in
-    let over : div_ceil x k * k < x + k = t.1 in
-    let under : y ≤ div_ceil y k * k = u.0 in
-    let m : (div_ceil y k + 2) * k ≤ div_ceil x k * k = mul-le-mul_right k (omega arith) in
-    let e : (div_ceil y k + 2) * k ≡ div_ceil y k * k + 2 * k = add-mul (div_ceil y k) 2 k in
-    absurd (omega arith))
-    (λ (p : div_ceil x k ≤ div_ceil y k + 1). p)
-    (cases_lt (div_ceil y k + 1) (div_ceil x k))
 
 -- the plan has no more passes than the limit
 pub count_within : (a : Matrix) (b m count : ℕ) → IsNonsingular a → b < m → m ≤ a.n

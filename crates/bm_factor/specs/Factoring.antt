@@ -1,24 +1,15 @@
 -- Plans of permutations: how many passes they have, and why there is none.
-use Rattle.std.specs.Prelude.{ℕ, ◌≡◌, ◌+◌, ◌-◌, ◌^◌, ◌<◌, ◌≤◌, List, [], ◌∷◌, ◌++◌, length, take}
-use Rattle.std.specs.Int.{div_ceil}
+use Rattle.std.specs.Prelude.{ℕ, ◌≡◌, ◌-◌, ◌^◌, ◌<◌, List, [], ◌∷◌, ◌++◌, length, take}
 use Rattle.std.specs.List.{All}
 use Rattle.bm_gf2.specs.declared.matrix.Matrix.{Matrix}
 use Rattle.bm_gf2.specs.Matrix.{image, IsNonsingular}
 use Rattle.bm_gf2.specs.Kernel.{IsLeastKernel}
-use Rattle.bm_rank.specs.Rank.{rank_of_rows}
 use Rattle.bm_forms.specs.declared.pass_form.PassForm.{PassForm}
-use Rattle.bm_forms.specs.Mld.{IsMld}
 use Rattle.bm_forms.specs.PassForm.{IsOfShape}
 use Rattle.bm_base.specs.declared.shape.Shape.{Shape}
 use Rattle.bm_gf2.specs.declared.affine.Affine.{Affine}
 use Rattle.bm_factor.specs.declared.error.FactorError.{FactorError}
 use Rattle.bm_factor.specs.declared.error.FactorError.TheVariants.{Singular, OutOfMemory}
-
--- one pass for an MLD matrix; else the rank of rows m and above of columns 0..m-1, over lg(M/B) and rounded up, and one
-pub record IsPassCount (a : Matrix) (b m count : ℕ) : Type 0 where
-  pub some : 1 ≤ count
-  pub one : IsMld a b m → count ≡ 1
-  pub several : ¬ IsMld a b m → count ≡ div_ceil (rank_of_rows a.cols m m) (m - b) + 1
 
 -- no pass has butterflies
 abbrev pub AreWithoutButterflies : List PassForm → Type 0
@@ -42,7 +33,7 @@ pub record AppendsPass (s : Shape) (old new : List PassForm) (f : Affine) : Type
   pub of_shape : IsOfShape s pass
 
 -- a is `done` and then `rest`, and both are nonsingular
-pub record IsSplit (a rest done : Matrix) : Type 0 where
+pub record IsFactored (a rest done : Matrix) : Type 0 where
   pub size_rest : rest.n ≡ a.n
   pub size_done : done.n ≡ a.n
   pub rest_nonsingular : IsNonsingular rest

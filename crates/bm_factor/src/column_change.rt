@@ -5,7 +5,7 @@ ghost use Rattle.bm_gf2.specs.Matrix.{column};
 
 use bm_gf2::Matrix;
 
-// The matrix t with column j replaced.
+/// The matrix t with column j replaced.
 pub fn with_column(t: &Matrix, j: u8, new: u64) -> Matrix
     requires j { j < t.now.n }
     requires below { new < 2 ^ t.now.n }

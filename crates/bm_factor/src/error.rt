@@ -2,7 +2,8 @@
 
 use thiserror::Error;
 
-/// Why there is no plan of a permutation.
+/// Why there is no plan of a permutation. The texts are for Rust's `Error` trait alone: nothing
+/// prints them, and no clause rests on them.
 #[derive(Clone, Copy, Debug, PartialEq, Eq, Error)]
 pub enum FactorError {
     /// The matrix sends x to 0, the least such vector but 0.

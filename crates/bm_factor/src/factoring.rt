@@ -8,9 +8,11 @@ ghost use Rattle.bm_rank.specs.RowSolution.{IsCovered};
 ghost use Rattle.bm_forms.specs.declared.job.Job.TheVariants.{Permute};
 ghost use Rattle.bm_forms.specs.Mld.{IsMld};
 ghost use Rattle.bm_forms.specs.Plan.{StandsFor};
+ghost use Rattle.bm_forms.specs.PassCount.{passes_of};
 ghost use Rattle.bm_forms.specs.PassLimit.{limit_of};
 ghost use Rattle.bm_factor.specs.Columns.{HasTrailingBlock, top_count};
-ghost use Rattle.bm_factor.specs.Factoring.{IsPassCount, AreWithoutButterflies, AreLinearButLast, FactorErrorIs, AppendsPass, IsSplit};
+ghost use Rattle.bm_factor.specs.Factoring.{AreWithoutButterflies, AreLinearButLast};
+ghost use Rattle.bm_factor.specs.Factoring.{FactorErrorIs, AppendsPass, IsFactored};
 
 use crate::erasing::eraser;
 use crate::error::FactorError;
@@ -20,21 +22,22 @@ use crate::trailing::trailer;
 use bm_base::{OutOfMemory, Shape};
 use bm_forms::{FormError, MldForm, PassForm, Plan};
 use bm_gf2::{Affine, Matrix};
-use bm_rank::rank_of;
+use bm_rank::{inverse, rank_of};
 use std::alloc::Global;
 
 /// The plan of the permutation by the map: one pass where its matrix A is MLD, else g + 1 passes
 /// with g the rank of rows m to n-1 of columns 0 to m-1, over lg(M/B) and rounded up.
 ///
 /// `A T R S1 E1 .. Sg Eg = F` with T the trailer, R the reducer, Si and Ei the swapper and the
-/// eraser of round i, each its own inverse. Pass 1 has the matrix `E1 S1 R T`, pass i from 2 to g
-/// `Ei Si`, the last one F and the map's constant (after the factoring of Cormen, Sundquist and
-/// Wisniewski). `Singular` comes exactly where A is, with the least vector that A sends to 0.
+/// eraser of round i; all but R are their own inverses. Pass 1 has the matrix `E1 S1 R' T` with R'
+/// the inverse of R, pass i from 2 to g `Ei Si`, the last one F and the map's constant (after the
+/// factoring of Cormen, Sundquist and Wisniewski). `Singular` comes exactly where A is, with the
+/// least vector that A sends to 0.
 pub fn factor(alloc: Global, shape: &Shape, map: &Affine) -> Result<Plan, FactorError>
     requires size { map.now.a.n ≡ shape.now.n }
     ensures stands { IfOk result (λ plan. StandsFor plan shape.now (Permute map.now)) }
     ensures length { IfOk result (λ plan.
-        IsPassCount map.now.a shape.now.b shape.now.m (length plan.forms)) }
+        length plan.forms ≡ passes_of shape.now (Permute map.now)) }
     ensures few { IfOk result (λ plan.
         length plan.forms ≤ limit_of shape.now (Permute map.now)) }
     ensures bound { IsNonsingular map.now.a → rank_of_rows map.now.a.cols shape.now.m shape.now.m
@@ -92,7 +95,7 @@ fn form_of(shape: &Shape, map: &Affine) -> MldForm
 
 // A matrix as a product: `rest` after `done`.
 #[derive(Clone, Copy)]
-struct Split {
+struct Factored {
     rest: Matrix,
     done: Matrix,
 }
@@ -112,7 +115,7 @@ fn several_passes(alloc: Global, shape: &Shape, map: &Affine) -> Result<Plan, Ou
     let rank = rank_of(&map.a, shape.m(), shape.m());
     let rounds = rank.div_ceil(shape.m() - shape.b());
     let mut plan = Plan::empty(alloc, shape);
-    let Split { mut rest, mut done } = reduced(shape, &map.a);
+    let Factored { mut rest, mut done } = reduced(shape, &map.a);
     for _round in 0..rounds {
         let next = erased(shape, &rest);
         let a = next.done.mul(&done);
@@ -125,11 +128,11 @@ fn several_passes(alloc: Global, shape: &Shape, map: &Affine) -> Result<Plan, Ou
     Ok(plan)
 }
 
-// `a T R`, and `R T`, which undoes `T R`.
-fn reduced(shape: &Shape, a: &Matrix) -> Split
+// `a T R`, and `R' T`, which undoes `T R`, with R' the inverse of R.
+fn reduced(shape: &Shape, a: &Matrix) -> Factored
     requires size { a.now.n ≡ shape.now.n }
     requires nonsingular { IsNonsingular a.now }
-    ensures split { IsSplit a.now result.rest result.done }
+    ensures split { IsFactored a.now result.rest result.done }
     ensures stays { (x : ℕ) → x < 2 ^ shape.now.m → image result.done x < 2 ^ shape.now.m }
     ensures trailing { HasTrailingBlock (column result.rest) a.now.n shape.now.m }
     ensures count { top_count (column result.rest) shape.now.m shape.now.m
@@ -138,18 +141,21 @@ fn reduced(shape: &Shape, a: &Matrix) -> Split
     let t = trailer(shape, a);
     let with_block = a.mul(&t);
     let r = reducer(shape, &with_block);
-    Split {
+    let Ok(undo) = inverse(&r) else {
+        unreachable!()
+    };
+    Factored {
         rest: with_block.mul(&r),
-        done: r.mul(&t),
+        done: undo.mul(&t),
     }
 }
 
 // `a S E`, and `E S`, which undoes `S E`: m - b columns fewer have anything in rows m and above.
-fn erased(shape: &Shape, a: &Matrix) -> Split
+fn erased(shape: &Shape, a: &Matrix) -> Factored
     requires size { a.now.n ≡ shape.now.n }
     requires nonsingular { IsNonsingular a.now }
     requires trailing { HasTrailingBlock (column a.now) a.now.n shape.now.m }
-    ensures split { IsSplit a.now result.rest result.done }
+    ensures split { IsFactored a.now result.rest result.done }
     ensures covered { IsCovered result.done shape.now.b shape.now.m }
     ensures trailing { HasTrailingBlock (column result.rest) a.now.n shape.now.m }
     ensures count { top_count (column result.rest) shape.now.m shape.now.m
@@ -158,7 +164,7 @@ fn erased(shape: &Shape, a: &Matrix) -> Split
     let s = swapper(shape, a);
     let swapped = a.mul(&s);
     let e = eraser(shape, &swapped);
-    Split {
+    Factored {
         rest: swapped.mul(&e),
         done: e.mul(&s),
     }

@@ -1,4 +1,5 @@
 //! Factors of a nonsingular address map, and the plan that they make.
+
 #![tactic(auto)]
 
 mod column_change;

@@ -67,4 +67,5 @@ pushed_more low i old round forms new p r l e f = record {
 pub pushed_all : (low i : ℕ) (old round forms : List PassForm) → IsPushed low i old round forms → i ≡ length round
     → forms ≡ old ++ first_with low round
 pushed_all low i old round forms r e =
-    r.is ∙ ap (λ (k : ℕ). old ++ first_with low (take k round)) e ∙ ap (λ (qs : List PassForm). old ++ first_with low qs) (take_all (length round) round (omega arith))
+    r.is ∙ ap (λ (k : ℕ). old ++ first_with low (take k round)) e
+    ∙ ap (λ (qs : List PassForm). old ++ first_with low qs) (take_all (length round) round (omega arith))

@@ -10,7 +10,10 @@ use Rattle.bm_gf2.specs.Matrix.{column, IsNonsingular}
 use Rattle.bm_forms.specs.declared.pass_form.PassForm.{PassForm}
 use Rattle.bm_forms.specs.declared.job.Job.TheVariants.{Permute, Walsh}
 use Rattle.bm_forms.specs.Plan.{PlanValue, DoJob, StandsFor}
-use Rattle.bm_forms.specs.PassLimit.{map_limit, rotation_columns, rotation_limit, rounds_of, last_bits, limit_of}
+use Rattle.bm_forms.specs.PassCount.{map_passes, rotation_passes, passes_of}
+use Rattle.bm_forms.specs.PassLimit.{map_limit, rotation_limit, limit_of}
+use Rattle.bm_forms.specs.Rounds.{rotation_columns, rounds_of, last_bits}
+use Rattle.bm_forms.proofs.PassCountLemmas.{passes-some, passes-rotation}
 use Rattle.bm_forms.proofs.PassLimitLemmas.{limit_few, rounds_few, rotation_rank}
 use Rattle.bm_forms.proofs.RotationLemmas.{is_rotation}
 use Rattle.bm_forms.proofs.RoundLemmas.{IsRotation}
@@ -39,12 +42,16 @@ passes_more n by done old (p ∷ qs) f r does plain some rot pos l =
     rounds_more n done by old p qs f r does (plain 0 p (omega arith)) rot.size rot.nonsingular
     (rotation_is n by f rot (omega arith)) pos l
 
+-- a round has a pass
+round_some : (s : Shape) (by : ℕ) (round : List PassForm) → length round ≡ rotation_passes s by → 1 ≤ length round
+round_some s by round count = let some : 1 ≤ rotation_passes s by = passes-some s (rotation_columns s.n by s.n) in omega arith
+
 -- one round after others
 round_more : (s : Shape) (by done : ℕ) (old new : List PassForm) → AppendsRound s by old new → IsRounds s.n done old → 0 < by
     → done + by ≤ s.n → IsRounds s.n (done + by) new
 round_more s by done old new a r pos l =
     subst (IsRounds s.n (done + by)) (sym a.is)
-    (passes_more s.n by done old a.round a.turn r a.does a.plain a.count.some a.rotates pos l)
+    (passes_more s.n by done old a.round a.turn r a.does a.plain (round_some s by a.round a.count) a.rotates pos l)
 
 -- whole rounds
 whole_rounds_do : (s : Shape) (k : ℕ) (forms : List PassForm) → AreWholeRounds s k forms → k * s.m ≤ s.n → IsRounds s.n (k * s.m) forms
@@ -99,7 +106,7 @@ appended_few s by old new a =
     let e : length new ≡ length old + length (first_with by a.round) = ap length a.is ∙ length-append old (first_with by a.round) in
     let f : length (first_with by a.round) ≡ length a.round = length_first by a.round in
     let few : length a.round ≤ rotation_limit s by = a.few in
-    let some : 1 ≤ length a.round = a.count.some in
+    let some : 1 ≤ length a.round = round_some s by a.round a.count in
     (omega arith, omega arith)
 
 -- whole rounds
@@ -121,6 +128,32 @@ rounds_within s forms r =
     let a = appended_few s (last_bits s) r.before forms r.last in
     let b : length forms ≤ length r.before + rotation_limit s (last_bits s) = a.0 in
     (omega arith, a.1)
+
+-- a round has the passes of its rotation
+appended_count : (s : Shape) (by : ℕ) (old new : List PassForm) → AppendsRound s by old new
+    → length new ≡ length old + rotation_passes s by
+appended_count s by old new a =
+    let e : length new ≡ length old + length (first_with by a.round) = ap length a.is ∙ length-append old (first_with by a.round) in
+    let f : length (first_with by a.round) ≡ length a.round = length_first by a.round in
+    e ∙ ap (λ (k : ℕ). length old + k) (f ∙ a.count)
+
+-- whole rounds have theirs
+whole_count : (s : Shape) (k : ℕ) (forms : List PassForm) → AreWholeRounds s k forms → length forms ≡ k * rotation_passes s s.m
+unfolding AreWholeRounds
+whole_count s zero forms w = let e : length forms ≡ 0 = ap length w in omega arith
+whole_count s (suc k) forms w =
+    let h : length w.0 ≡ k * rotation_passes s s.m = whole_count s k w.0 w.1 in
+    let a : length forms ≡ length w.0 + rotation_passes s s.m = appended_count s s.m w.0 forms w.2 in
+    let e : (k + 1) * rotation_passes s s.m ≡ k * rotation_passes s s.m + 1 * rotation_passes s s.m = add-mul k 1 (rotation_passes s s.m) in
+    let c : suc k ≡ k + 1 = omega arith in
+    let d : suc k * rotation_passes s s.m ≡ (k + 1) * rotation_passes s s.m = ap (λ (x : ℕ). x * rotation_passes s s.m) c in
+    omega arith
+
+-- all rounds have what the count says
+pub rounds_count : (s : Shape) (forms : List PassForm) → AreRounds s forms → length forms ≡ passes_of s Walsh
+rounds_count s forms r =
+    appended_count s (last_bits s) r.before forms r.last
+    ∙ ap (λ (k : ℕ). k + rotation_passes s (last_bits s)) (whole_count s (rounds_of s - 1) r.before r.whole)
 
 -- the limit of a rotation
 limit_small : (s : Shape) (by : ℕ) → rotation_limit s by ≤ s.b + 2
@@ -156,6 +189,10 @@ map_within s by f r =
     let l : s.b ≤ s.n = omega (arith, s.keeps.block, s.keeps.memory) in
     ap (λ (c : ℕ). div_ceil c (s.m - s.b) + 2) (rotation_rank f.a.cols s.n by s.b l r.columns)
 
+-- the passes of the rotation's own map
+pub map_count : (s : Shape) (by : ℕ) (f : Affine) → IsRotationBy s.n by f → map_passes s f.a.cols ≡ rotation_passes s by
+map_count s by f r = passes-rotation s by f.a.cols r.columns
+
 -- ---- rounds put at the end
 
 -- before all rounds
@@ -180,12 +217,3 @@ rotation_by n k by f e l size columns constant nonsingular = record {
   constant = constant;
   nonsingular = nonsingular;
 }
-
--- the bits of the last round, as they are computed
-pub last_is : (s : Shape) (n m rounds : ℕ) → n ≡ s.n → m ≡ s.m → rounds ≡ rounds_of s → n - (rounds - 1) * m ≡ last_bits s
-last_is s n m rounds e f g =
-    ap (λ (x : ℕ). x - (rounds - 1) * m) e ∙ ap (λ (x : ℕ). s.n - (rounds - 1) * x) f ∙ ap (λ (x : ℕ). s.n - (x - 1) * s.m) g
-
--- how many rounds there are, as it is computed
-pub rounds_is : (s : Shape) (n m rounds : ℕ) → n ≡ s.n → m ≡ s.m → rounds ≡ div_ceil n m → rounds ≡ rounds_of s
-rounds_is s n m rounds e f g = g ∙ ap (λ (x : ℕ). div_ceil x m) e ∙ ap (λ (x : ℕ). div_ceil s.n x) f

@@ -6,8 +6,10 @@ use Rattle.bm_gf2.specs.Matrix.{column, IsNonsingular}
 use Rattle.bm_forms.specs.declared.pass_form.PassForm.{PassForm}
 use Rattle.bm_forms.specs.declared.job.Job.TheVariants.{Permute}
 use Rattle.bm_forms.specs.Plan.{DoJob}
-use Rattle.bm_forms.specs.PassLimit.{rotation_limit, rounds_of, last_bits}
-use Rattle.bm_factor.specs.Factoring.{IsPassCount, AreWithoutButterflies}
+use Rattle.bm_forms.specs.PassCount.{rotation_passes}
+use Rattle.bm_forms.specs.PassLimit.{rotation_limit}
+use Rattle.bm_forms.specs.Rounds.{rounds_of, last_bits}
+use Rattle.bm_factor.specs.Factoring.{AreWithoutButterflies}
 
 -- the rotation of n address bits by `by`, without a constant
 pub record IsRotationBy (n by : ℕ) (f : Affine) : Type 0 where
@@ -21,7 +23,8 @@ unfoldable pub first_with : ℕ → List PassForm → List PassForm
 first_with low [] = []
 first_with low (p ∷ ps) = record p { low = low } ∷ ps
 
--- a round is put at the end: plain passes that do the rotation by `by`, as few as `factor` has, with butterflies on the bits below `by` in the first
+-- a round is put at the end: plain passes that do the rotation by `by`, as many as it takes, with butterflies on the bits below
+-- `by` in the first
 pub record AppendsRound (s : Shape) (by : ℕ) (old new : List PassForm) : Type 0 where
   pub round : List PassForm
   pub turn : Affine
@@ -29,7 +32,7 @@ pub record AppendsRound (s : Shape) (by : ℕ) (old new : List PassForm) : Type 
   pub rotates : IsRotationBy s.n by turn
   pub does : DoJob round s.n (Permute turn)
   pub plain : AreWithoutButterflies round
-  pub count : IsPassCount turn.a s.b s.m (length round)
+  pub count : length round ≡ rotation_passes s by
   pub few : length round ≤ rotation_limit s by
 
 -- k rounds of m bits each

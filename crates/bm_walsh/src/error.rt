@@ -2,7 +2,8 @@
 
 use thiserror::Error;
 
-/// Why there is no plan of the transform.
+/// Why there is no plan of the transform. The texts are for Rust's `Error` trait alone: nothing
+/// prints them, and no clause rests on them.
 #[derive(Clone, Copy, Debug, PartialEq, Eq, Error)]
 pub enum WalshError {
     /// The records are not 8 bytes wide.

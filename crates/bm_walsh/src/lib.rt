@@ -1,4 +1,5 @@
 //! The plan of the Walsh-Hadamard transform.
+
 #![tactic(auto)]
 
 mod error;

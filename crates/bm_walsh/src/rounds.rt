@@ -3,13 +3,14 @@
 ghost use Rattle.std.specs.Prelude.{◌≡◌, ◌≢◌, ◌↔◌, ◌+◌, ◌≤◌, ◌++◌, length, Err, IfOk, OnOk};
 ghost use Rattle.bm_forms.specs.declared.job.Job.TheVariants.{Walsh};
 ghost use Rattle.bm_forms.specs.Plan.{StandsFor};
+ghost use Rattle.bm_forms.specs.PassCount.{passes_of};
 ghost use Rattle.bm_forms.specs.PassLimit.{rotation_limit, limit_of};
 ghost use Rattle.bm_walsh.specs.Rounds.{first_with, AreRounds, AppendsRound};
 
 use crate::error::WalshError;
 use bm_base::{OutOfMemory, Shape};
 use bm_factor::{FactorError, factor};
-use bm_forms::{PassForm, Plan};
+use bm_forms::{PassForm, Plan, last_bits, round_count};
 use bm_named::rotation;
 use std::alloc::Global;
 
@@ -23,6 +24,7 @@ use std::alloc::Global;
 pub fn walsh_plan(alloc: Global, shape: &Shape) -> Result<Plan, WalshError>
     ensures stands { IfOk result (λ plan. StandsFor plan shape.now Walsh) }
     ensures rounds { IfOk result (λ plan. AreRounds shape.now plan.forms) }
+    ensures length { IfOk result (λ plan. length plan.forms ≡ passes_of shape.now Walsh) }
     ensures few { IfOk result (λ plan. length plan.forms ≤ limit_of shape.now Walsh) }
     ensures some { IfOk result (λ plan. 1 ≤ length plan.forms) }
     ensures fits { OnOk result (shape.now.width ≡ 8) }
@@ -43,13 +45,11 @@ fn all_rounds(alloc: Global, shape: &Shape) -> Result<Plan, OutOfMemory>
     ensures shape { IfOk result (λ plan. plan.shape ≡ shape.now) }
     ensures rounds { IfOk result (λ plan. AreRounds shape.now plan.forms) }
 {
-    let before = shape.n().div_ceil(shape.m()) - 1;
-    let last = shape.n() - before * shape.m();
     let mut plan = Plan::empty(alloc, shape);
-    for _round in 0..before {
+    for _round in 0..round_count(shape) - 1 {
         push_round(alloc, &mut plan, shape, shape.m())?;
     }
-    push_round(alloc, &mut plan, shape, last)?;
+    push_round(alloc, &mut plan, shape, last_bits(shape))?;
     Ok(plan)
 }
 

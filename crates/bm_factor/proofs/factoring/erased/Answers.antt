@@ -2,7 +2,7 @@ use Rattle.std.proofs.Common.{ℕ, ◌≡◌, ◌<◌, ◌≤◌, ◌^◌, ◌�
 use Rattle.std.proofs.lemmas.Nat.{pow_below}
 use Rattle.bm_gf2.specs.Matrix.{column}
 use Rattle.bm_forms.proofs.MldLemmas.{covered_after}
-use Rattle.bm_factor.proofs.SplitLemmas.{split_of_involutions, block-ext, column_kept, stays_low, erased_count}
+use Rattle.bm_factor.proofs.FactoredLemmas.{split_of_involutions, block-ext, column_kept, stays_low, erased_count}
 use Rattle.bm_factor.proofs.factoring.erased.Goals as goal
 
 pub eraser-e-requires-clause-trailing : goal.eraser-e-requires-clause-trailing

@@ -3,18 +3,18 @@ use Rattle.bm_gf2.specs.Matrix.{image, column}
 use Rattle.bm_forms.proofs.MldLemmas.{nonsingular_after, nonsingular_of_involution}
 use Rattle.bm_factor.specs.Columns.{product}
 use Rattle.bm_factor.proofs.ColumnLemmas.{unchanged_low}
-use Rattle.bm_factor.proofs.SplitLemmas.{split_of_involutions, block-ext, column_kept, stays_low, reduced_count}
+use Rattle.bm_factor.proofs.FactoredLemmas.{split_of_inverses, undone_low, block-ext, column_kept, reduced_count}
 use Rattle.bm_factor.proofs.factoring.reduced.Goals as goal
 
 pub returns-clause-split : goal.returns-clause-split
 returns-clause-split c =
     let t = c.trailer-t.ensures.trailer in
     let r = c.reducer-r.ensures.reducer in
-    split_of_involutions c.args.a.now c.trailer-t.result c.reducer-r.result c.mul-with_block.result c.mul.result c.mul-2.result
+    let undo = c.in-Ok.ensures.undone in
+    split_of_inverses c.args.a.now c.trailer-t.result c.reducer-r.result c.in-Ok.undo c.mul-with_block.result c.mul.result c.mul-2.result
     c.requires.nonsingular t.size (r.size ∙ c.mul-with_block.ensures.size) c.mul-with_block.ensures.size
-    (c.mul.ensures.size ∙ c.mul-with_block.ensures.size) (c.mul-2.ensures.size ∙ r.size ∙ c.mul-with_block.ensures.size)
-    c.trailer-t.ensures.inverse c.reducer-r.ensures.inverse c.mul-with_block.ensures.composes c.mul.ensures.composes
-    c.mul-2.ensures.composes
+    (c.mul.ensures.size ∙ c.mul-with_block.ensures.size) (c.mul-2.ensures.size ∙ undo.size ∙ r.size ∙ c.mul-with_block.ensures.size)
+    c.trailer-t.ensures.inverse undo c.mul-with_block.ensures.composes c.mul.ensures.composes c.mul-2.ensures.composes
 
 pub returns-clause-stays : goal.returns-clause-stays
 returns-clause-stays c =
@@ -26,8 +26,9 @@ returns-clause-stays c =
     (arith, r.size, c.mul-with_block.ensures.size, c.args.shape.now.keeps.memory, c.requires.size) in
     λ x h.
     let same : image c.trailer-t.result x ≡ x = unchanged_low c.trailer-t.result m x tn t.kept h in
-    subst (λ (v : ℕ). v < 2 ^ m) (sym (c.mul-2.ensures.composes x ∙ ap (image c.reducer-r.result) same))
-    (stays_low c.reducer-r.result m x rn r.within h)
+    subst (λ (v : ℕ). v < 2 ^ m) (sym (c.mul-2.ensures.composes x ∙ ap (image c.in-Ok.undo) same))
+    (undone_low c.reducer-r.result c.in-Ok.undo m x rn c.in-Ok.ensures.undone r.within
+    (λ j p l. r.kept j p (subst (λ k. j < k) r.size l)) h)
 
 pub returns-clause-trailing : goal.returns-clause-trailing
 returns-clause-trailing c =

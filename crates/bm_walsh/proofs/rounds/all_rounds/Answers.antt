@@ -1,7 +1,8 @@
 use Rattle.std.proofs.Common.{◌≡◌, ◌+◌, ◌-◌, ◌<◌, ◌≤◌, ℕ, length, sym, ◌∙◌, subst, arith}
-use Rattle.bm_forms.specs.PassLimit.{rotation_limit, rounds_of}
+use Rattle.bm_forms.specs.PassLimit.{rotation_limit}
+use Rattle.bm_forms.specs.Rounds.{rounds_of}
 use Rattle.bm_walsh.specs.Rounds.{AppendsRound, AreWholeRounds}
-use Rattle.bm_walsh.proofs.RoundsLemmas.{whole_none, whole_more, whole_room, last_room, last_is, rounds_is}
+use Rattle.bm_walsh.proofs.RoundsLemmas.{whole_none, whole_more, whole_room, last_room}
 use Rattle.bm_walsh.proofs.rounds.all_rounds.Goals as goal
 
 pub loop-round-init : goal.loop-round-init
@@ -10,17 +11,15 @@ loop-round-init c = (whole_none c.args.shape.now c.empty-plan.result.forms c.emp
 pub push_round-requires-clause-room : goal.push_round-requires-clause-room
 push_round-requires-clause-room c =
     let s = c.args.shape.now in
-    let r : c.div_ceil-before.result ≡ rounds_of s =
-    rounds_is s c.n.result c.m.result c.div_ceil-before.result c.n.ensures c.m.ensures c.div_ceil-before.ensures in
-    let more : c.loop-round._round < rounds_of s - 1 = omega (arith, r, c.loop-round-test.true) in
-    subst (λ (k : ℕ). length c.loop-round.plan.forms + rotation_limit s k ≤ 256) (sym c.m-in-loop-round.ensures)
+    let more : c.loop-round._round < rounds_of s - 1 = omega (arith, c.round_count-round-end.ensures.rounds, c.loop-round-test.true) in
+    subst (λ (k : ℕ). length c.loop-round.plan.forms + rotation_limit s k ≤ 256) (sym c.m.ensures)
     (whole_room s c.loop-round._round c.loop-round.plan.forms c.loop-round.invariant.0 more)
 
 pub loop-round-preserved : goal.loop-round-preserved
 loop-round-preserved c =
     let s = c.args.shape.now in (
       whole_more s c.loop-round._round c.loop-round.plan.forms c.push_round.new.plan.forms c.loop-round.invariant.0
-          (subst (λ (k : ℕ). AppendsRound s k c.loop-round.plan.forms c.push_round.new.plan.forms) c.m-in-loop-round.ensures
+          (subst (λ (k : ℕ). AppendsRound s k c.loop-round.plan.forms c.push_round.new.plan.forms) c.m.ensures
           c.in_ok-push_round.ensures.pushed),
       c.push_round.ensures.shape ∙ c.loop-round.invariant.1,
     )
@@ -28,10 +27,8 @@ loop-round-preserved c =
 pub push_round-requires-2-clause-room : goal.push_round-requires-2-clause-room
 push_round-requires-2-clause-room c =
     let s = c.args.shape.now in
-    let r : c.div_ceil-before.result ≡ rounds_of s =
-    rounds_is s c.n.result c.m.result c.div_ceil-before.result c.n.ensures c.m.ensures c.div_ceil-before.ensures in
-    let all : c.loop-round._round ≡ rounds_of s - 1 = omega (arith, r) in
+    let all : c.loop-round._round ≡ rounds_of s - 1 = omega (arith, c.round_count-round-end.ensures.rounds) in
     subst (λ (k : ℕ). length c.loop-round.plan.forms + rotation_limit s k ≤ 256)
-    (sym (last_is s c.n-2.result c.m-2.result c.div_ceil-before.result c.n-2.ensures c.m-2.ensures r))
+    (sym c.last_bits.ensures.bits)
     (last_room s c.loop-round.plan.forms
     (subst (λ (k : ℕ). AreWholeRounds s k c.loop-round.plan.forms) all c.loop-round.invariant.0))

@@ -1,8 +1,8 @@
-use Rattle.std.proofs.Common.{◌≤◌, ℕ, length, subst, arith}
+use Rattle.std.proofs.Common.{◌≤◌, ◌∙◌, ℕ, length, subst, arith}
 use Rattle.std.proofs.lemmas.Result.{on_ok_weaker}
 use Rattle.bm_forms.specs.PassLimit.{rotation_limit}
 use Rattle.bm_walsh.specs.Rounds.{IsRotationBy}
-use Rattle.bm_walsh.proofs.RoundsLemmas.{rotation_by, map_within}
+use Rattle.bm_walsh.proofs.RoundsLemmas.{rotation_by, map_within, map_count}
 use Rattle.bm_walsh.proofs.rounds.push_round.Goals as goal
 
 pub push_passes-requires-clause-room : goal.push_passes-requires-clause-room
@@ -31,7 +31,7 @@ returns-in-Ok-clause-pushed c =
       rotates = turn;
       does = c.in-Ok.ensures.stands.does;
       plain = c.in-Ok.ensures.low;
-      count = c.in-Ok.ensures.length;
+      count = c.in-Ok.ensures.length ∙ map_count s c.args.by c.rotation-turn.result turn;
       few = subst (λ (k : ℕ). length c.in-Ok.round.forms ≤ k) (map_within s c.args.by c.rotation-turn.result turn) c.in-Ok.ensures.few;
     })
     c.push_passes.ensures.pushed
