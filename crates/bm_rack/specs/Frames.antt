@@ -1,6 +1,5 @@
 -- What a call leaves as it was, and what it counts.
-use Rattle.std.specs.Prelude.{◌≡◌, ℕ, ◌≤◌, false, IsTrue, IsFalse, Result, IsOk}
-use Rattle.bm_base.specs.declared.fault.Failed.{Failed}
+use Rattle.std.specs.Prelude.{◌≡◌, ℕ, ◌≤◌, false, IsTrue, IsFalse}
 use Rattle.bm_base.specs.Contents.{RackUnit, unit_at}
 use Rattle.bm_base.specs.Count.{raised, Rose}
 use Rattle.bm_rack.specs.RackView.{RackView}
@@ -18,9 +17,19 @@ pub record RaisesCounts (m p s : ℕ) (old new : RackView) : Type 0 where
   pub pages : new.pages ≡ raised old.pages p
   pub syncs : new.syncs ≡ raised old.syncs s
 
--- so many row calls on Ok and at most as many otherwise, and no other call
-pub record MakesMoves {T : Type 0} (rows : ℕ) (old new : RackView) (result : Result T Failed) : Type 0 where
-  pub done : IsOk result → RaisesCounts rows 0 0 old new
+-- So many row calls where it succeeds. However it ends, no fewer calls than before, and at most so many row calls, page calls and syncs.
+pub record MakesCalls (succeeds : Type 0) (rows pages syncs : ℕ) (old new : RackView) : Type 0 where
+  pub done : succeeds → new.moves ≡ raised old.moves rows
+  pub moves_low : old.moves ≤ new.moves
+  pub moves_high : new.moves ≤ raised old.moves rows
+  pub pages_low : old.pages ≤ new.pages
+  pub pages_high : new.pages ≤ raised old.pages pages
+  pub syncs_low : old.syncs ≤ new.syncs
+  pub syncs_high : new.syncs ≤ raised old.syncs syncs
+
+-- so many row calls where it is finished and at most as many otherwise, and no other call
+pub record MovesRows (rows : ℕ) (finished : Type 0) (old new : RackView) : Type 0 where
+  pub done : finished → new.moves ≡ raised old.moves rows
   pub low : old.moves ≤ new.moves
   pub high : new.moves ≤ raised old.moves rows
   pub pages : new.pages ≡ old.pages

@@ -1,4 +1,5 @@
 //! The devices as their callers see them: a rack of disks with a slate of pages, a source and a sink of bytes.
+
 #![tactic(auto)]
 
 mod rack;

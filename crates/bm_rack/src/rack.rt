@@ -1,11 +1,12 @@
 //! A rack of disks with a slate of pages.
+
 ghost use Rattle.std.specs.Prelude.{◌≡◌, ℕ, ◌<◌, Bool, length, Some, IsErr, IsErrOf};
 ghost use Rattle.bm_base.specs.declared.dims.Dims.{Dims};
 ghost use Rattle.bm_rack.specs.RackView.{RackView, IsWellFormed, IsAttached};
 ghost use Rattle.bm_rack.specs.Frames.{Keeps, RaisesCounts, HasCause, SameState};
 ghost use Rattle.bm_rack.specs.Calls.{RowFits, RowRead, RowWritten, PageRead, PageWritten, Synced, AttachDone, CreateDone};
 
-use bm_base::{Dims, Failed};
+use bm_base::{Dims, Failed, PAGE_BYTES};
 
 /// What stands where a rack was looked for.
 #[derive(Clone, Copy, Debug, PartialEq, Eq)]
@@ -101,7 +102,7 @@ pub trait Rack {
         ensures cause { HasCause (IsErr result) (view self.old) (view self.new) };
 
     /// Reads a page of the slate. The page is below 516.
-    fn read_page(&mut self, page: u16, bytes: &mut [u8; 512]) -> Result<(), Failed>
+    fn read_page(&mut self, page: u16, bytes: &mut [u8; PAGE_BYTES]) -> Result<(), Failed>
         requires ready { IsAttached (view self.old).attached }
         requires page { page < 516 }
         ensures length { length bytes.new ≡ 512 }
@@ -112,7 +113,7 @@ pub trait Rack {
         ensures cause { HasCause (IsErr result) (view self.old) (view self.new) };
 
     /// Writes a page of the slate, which is dirty afterwards, also where it fails. The page is below 516.
-    fn write_page(&mut self, page: u16, bytes: &[u8; 512]) -> Result<(), Failed>
+    fn write_page(&mut self, page: u16, bytes: &[u8; PAGE_BYTES]) -> Result<(), Failed>
         requires ready { IsAttached (view self.old).attached }
         requires page { page < 516 }
         ensures written { PageWritten tells_contents (view self.old) page bytes.now result (view self.new) }

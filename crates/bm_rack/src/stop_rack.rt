@@ -1,4 +1,5 @@
 //! A rack that can be stopped and started again.
+
 ghost use Rattle.std.specs.Prelude.{true, false};
 ghost use Rattle.bm_rack.specs.Sessions.{StopSet, Restarted};
 
