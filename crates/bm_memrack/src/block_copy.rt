@@ -1,4 +1,5 @@
 //! Copies of blocks between a row's bytes and one list that holds a rack's blocks.
+
 ghost use Rattle.std.specs.Prelude.{◌≡◌, ℕ, ◌+◌, ◌*◌, ◌^◌, ◌<◌, ◌≤◌, Bool, length, take, drop, replicate, slice_index_or, Some, None};
 ghost use Rattle.std.specs.Fork.{slice_chunk};
 ghost use borrow.Rule.Slice.PartMut.{put_mid};
@@ -15,7 +16,7 @@ pub fn copy_bytes(to: &mut [u8], at: usize, from: &[u8], start: usize, len: usiz
     to[at..at + len].copy_from_slice(&from[start..start + len]);
 }
 
-/// Sets some bytes of a list to zero.
+// Sets some bytes of a list to zero.
 fn clear_bytes(bytes: &mut [u8], at: usize, len: usize)
     requires { at + len ≤ length bytes.old }
     ensures { bytes.new ≡ put_mid at len bytes.old (replicate len 0) }
@@ -23,7 +24,7 @@ fn clear_bytes(bytes: &mut [u8], at: usize, len: usize)
     bytes[at..at + len].fill(0);
 }
 
-/// The number of a block.
+// The number of a block.
 fn number_of(dims: &Dims, disk: usize, place: u64) -> usize
     requires disk { disk < dims.now.disks }
     requires place { place < dims.now.places }

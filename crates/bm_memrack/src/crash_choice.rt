@@ -1,4 +1,5 @@
 //! What a stop leaves of the units that were dirty.
+
 ghost use Rattle.std.specs.Prelude.{◌≡◌, ℕ, ◌+◌, ◌*◌, ◌^◌, ◌<◌, ◌≤◌, Bool, true, false, length, take, drop};
 ghost use Rattle.std.specs.Fork.{slice_chunk};
 ghost use borrow.Rule.Slice.PartMut.{put_mid};

@@ -1,4 +1,5 @@
 //! The numbers of the calls that fail.
+
 ghost use Rattle.std.specs.Prelude.{◌≡◌, ℕ, ◌^◌, ◌<◌, ◌||◌, Bool, if◌then◌else◌, nat_eq, length};
 ghost use Rattle.bm_base.specs.Count.{raised};
 ghost use Rattle.bm_memrack.specs.FaultList.{is_listed};

@@ -1,4 +1,5 @@
 //! Devices in memory: racks that never fail or fail as told, sources and sinks of bytes.
+
 #![tactic(auto)]
 
 mod block_copy;

@@ -1,4 +1,5 @@
 //! A rack in memory that fails as it was told, and can be stopped and started again.
+
 ghost use Rattle.std.specs.Prelude.{◌≡◌, ◌^◌, ◌<◌, is_some};
 ghost use Rattle.bm_memrack.specs.FaultList.{is_empty};
 
@@ -170,7 +171,7 @@ impl Rack for MemRack {
         outcome(fails)
     }
 
-    fn read_page(&mut self, page: u16, bytes: &mut [u8; 512]) -> Result<(), Failed>
+    fn read_page(&mut self, page: u16, bytes: &mut [u8; PAGE_BYTES]) -> Result<(), Failed>
         requires ready { IsAttached (view_of self.old).attached }
         requires page { page < 516 }
         ensures length { length bytes.new ≡ 512 }
@@ -192,7 +193,7 @@ impl Rack for MemRack {
         Ok(())
     }
 
-    fn write_page(&mut self, page: u16, bytes: &[u8; 512]) -> Result<(), Failed>
+    fn write_page(&mut self, page: u16, bytes: &[u8; PAGE_BYTES]) -> Result<(), Failed>
         requires ready { IsAttached (view_of self.old).attached }
         requires page { page < 516 }
         ensures written { PageWritten true (view_of self.old) page bytes.now result

@@ -1,4 +1,5 @@
 //! A sink of bytes in memory.
+
 ghost use Rattle.std.specs.Prelude.{◌≡◌, ◌≤◌, IsOk, IfOk, [], length, vec_capacity};
 
 use crate::fault_list::FaultList;
@@ -60,7 +61,7 @@ impl MemSink {
 }
 
 impl Sink for MemSink {
-    ghost use Rattle.std.specs.Prelude.{◌≡◌, ◌<◌, ◌≤◌, true, IsErr, IfOk, min, length};
+    ghost use Rattle.std.specs.Prelude.{◌≡◌, ◌<◌, ◌≤◌, true, IsOk, IsErr, IfOk, min, length};
     ghost use Rattle.bm_base.specs.Count.{Rose};
     ghost use Rattle.bm_rack.specs.Sink.{SinkWritten};
     ghost use Rattle.bm_memrack.specs.ToldCall.{IsToldCall};
@@ -79,6 +80,7 @@ impl Sink for MemSink {
         ensures written { SinkWritten true (taken_by self.old) bytes.now result
             (taken_by self.new) }
         ensures faults { self.old.list.faults ≤ self.new.list.faults }
+        ensures quiet { IsOk result → self.new.list.faults ≡ self.old.list.faults }
         ensures cause { IsErr result → Rose self.old.list.faults self.new.list.faults }
         ensures told { IsToldCall (is_full self.old) (IsErr result) self.old.list self.new.list }
         ensures count { IfOk result

@@ -1,4 +1,5 @@
 //! Sources of bytes in memory.
+
 ghost use Rattle.std.specs.Prelude.{◌≡◌, ◌≤◌, ◌++◌, min, length, take, drop};
 ghost use Rattle.std.proofs.Common.{rules};
 
@@ -69,7 +70,7 @@ impl MemSource {
 }
 
 impl Source for MemSource {
-    ghost use Rattle.std.specs.Prelude.{◌≡◌, ◌<◌, ◌≤◌, true, false, IsErr, IfOk, min, length};
+    ghost use Rattle.std.specs.Prelude.{◌≡◌, ◌<◌, ◌≤◌, true, false, IsOk, IsErr, IfOk, min, length};
     ghost use Rattle.bm_base.specs.Count.{Rose};
     ghost use Rattle.bm_rack.specs.Source.{SourceRead};
     ghost use Rattle.bm_memrack.specs.ToldCall.{IsToldCall};
@@ -88,6 +89,7 @@ impl Source for MemSource {
         ensures read { SourceRead true (left_of self.old) (length into.old) result
             into.new (left_of self.new) }
         ensures faults { self.old.list.faults ≤ self.new.list.faults }
+        ensures quiet { IsOk result → self.new.list.faults ≡ self.old.list.faults }
         ensures cause { IsErr result → Rose self.old.list.faults self.new.list.faults }
         ensures told { IsToldCall false (IsErr result) self.old.list self.new.list }
         ensures count { IfOk result

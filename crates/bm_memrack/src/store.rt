@@ -1,4 +1,5 @@
 //! The blocks and pages of a rack in memory.
+
 ghost use Rattle.std.specs.Prelude.{◌≡◌, ℕ, ◌+◌, ◌*◌, ◌^◌, ◌<◌, ◌≤◌, length, slice_index_or, take, drop, set, replicate, true, false, Bool, List, Some, None, IfOk};
 ghost use Rattle.std.specs.Fork.{slice_chunk};
 ghost use borrow.Rule.Slice.PartMut.{put_mid};
@@ -11,7 +12,7 @@ use bm_base::{Dims, PAGE_BYTES, SLATE_PAGES};
 use std::alloc::{AllocError, Global};
 
 // The bytes of a slate.
-const SLATE_BYTES: usize = 264192;
+const SLATE_BYTES: usize = SLATE_PAGES as usize * PAGE_BYTES;
 
 /// A rack's blocks in one list, disk after disk, its slate in another, and which of them are dirty.
 #[derive(Drop)]
@@ -108,7 +109,7 @@ impl Store {
     }
 
     /// Reads a page.
-    pub fn read_page(&self, page: u16, bytes: &mut [u8; 512])
+    pub fn read_page(&self, page: u16, bytes: &mut [u8; PAGE_BYTES])
         requires { page < 516 }
         ensures length { length bytes.new ≡ 512 }
         ensures bytes { bytes.new ≡ slice_chunk self.now.slate.items 512 page }
@@ -118,7 +119,7 @@ impl Store {
     }
 
     /// Writes the first `len` bytes of a page, and makes it dirty.
-    pub fn write_page(&mut self, page: u16, bytes: &[u8; 512], len: usize)
+    pub fn write_page(&mut self, page: u16, bytes: &[u8; PAGE_BYTES], len: usize)
         requires page { page < 516 }
         requires len { len ≤ 512 }
         ensures slate { self.new.slate.items

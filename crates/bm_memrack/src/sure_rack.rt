@@ -1,4 +1,5 @@
 //! A rack in memory that never fails.
+
 ghost use Rattle.std.specs.Prelude.{◌≡◌, ◌<◌, ◌^◌, true, false};
 
 use crate::store::{Store, make_store};
@@ -112,7 +113,7 @@ impl Rack for SureRack {
         Ok(())
     }
 
-    fn read_page(&mut self, page: u16, bytes: &mut [u8; 512]) -> Result<(), Failed> {
+    fn read_page(&mut self, page: u16, bytes: &mut [u8; PAGE_BYTES]) -> Result<(), Failed> {
         self.pages = self.pages.saturating_add(1);
         match &self.store {
             Some(store) => store.read_page(page, bytes),
@@ -121,7 +122,7 @@ impl Rack for SureRack {
         Ok(())
     }
 
-    fn write_page(&mut self, page: u16, bytes: &[u8; 512]) -> Result<(), Failed> {
+    fn write_page(&mut self, page: u16, bytes: &[u8; PAGE_BYTES]) -> Result<(), Failed> {
         self.pages = self.pages.saturating_add(1);
         match &mut self.store {
             Some(store) => store.write_page(page, bytes, PAGE_BYTES),

@@ -1,4 +1,5 @@
 //! Device calls that fail as they were told.
+
 ghost use Rattle.std.specs.Prelude.{◌≡◌, ◌≤◌, ◌||◌, ◌/◌, IsTrue, IsFalse, is_some, is_err, if◌then◌else◌};
 ghost use Rattle.bm_base.specs.Count.{raised, Rose};
 ghost use Rattle.bm_memrack.specs.FaultList.{is_empty, is_listed};

@@ -1,4 +1,5 @@
 //! A rack of which no contract tells anything.
+
 ghost use Rattle.std.specs.Prelude.{◌≡◌, ◌<◌, ◌^◌, false};
 ghost use Rattle.std.proofs.Common.{rules};
 ghost use Rattle.bm_rack.specs.Untold.{untold_view};
@@ -121,7 +122,7 @@ impl Rack for UntoldRack {
         Ok(())
     }
 
-    fn read_page(&mut self, _page: u16, bytes: &mut [u8; 512]) -> Result<(), Failed>
+    fn read_page(&mut self, _page: u16, bytes: &mut [u8; PAGE_BYTES]) -> Result<(), Failed>
         requires ready { IsAttached (view_of self.old).attached }
         requires page { _page < 516 }
         ensures length { length bytes.new ≡ 512 }
@@ -138,7 +139,7 @@ impl Rack for UntoldRack {
         Ok(())
     }
 
-    fn write_page(&mut self, _page: u16, _bytes: &[u8; 512]) -> Result<(), Failed>
+    fn write_page(&mut self, _page: u16, _bytes: &[u8; PAGE_BYTES]) -> Result<(), Failed>
         requires ready { IsAttached (view_of self.old).attached }
         requires page { _page < 516 }
         ensures written { PageWritten false (view_of self.old) _page _bytes.now result
