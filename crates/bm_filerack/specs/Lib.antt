@@ -1,1 +1,3 @@
+pub mod FileNames
 pub mod FileRack
+pub mod Standing

@@ -1,9 +1,10 @@
 //! The open files of a rack that is attached.
-ghost use Rattle.std.specs.Prelude.{◌≡◌, ◌≢◌, ◌*◌, ◌^◌, ◌<◌, ℕ, length, Some, None};
+
+ghost use Rattle.std.specs.Prelude.{◌≡◌, ◌≢◌, ◌*◌, ◌^◌, ◌<◌, ℕ, false, length, Some, None, All, OnOk};
 ghost use Rattle.bm_rack.specs.Calls.{RowFits, place_on, disk_bytes};
 
+use crate::synced_file::SyncedFile;
 use bm_base::{Dims, PAGE_BYTES};
-use std::fs::OpenFile;
 use std::io;
 use std::os::unix::fs::FileExt;
 use std::rt::Files;
@@ -12,15 +13,19 @@ use std::rt::Files;
 #[derive(Drop)]
 pub struct DiskFiles<F: Files> {
     dims: Dims,
-    slate: F::File,
-    disks: Vec<F::File>,
+    slate: SyncedFile<F::File>,
+    disks: Vec<SyncedFile<F::File>>,
     ghost all: { length disks.items ≡ dims.disks },
     ghost size: { dims.places * dims.block < 2 ^ 63 },
 }
 
 impl<F: Files> DiskFiles<F> {
     /// The slate and the disks of these sizes.
-    pub fn new(dims: &Dims, slate: F::File, disks: Vec<F::File>) -> DiskFiles<F>
+    pub fn new(
+        dims: &Dims,
+        slate: SyncedFile<F::File>,
+        disks: Vec<SyncedFile<F::File>>,
+    ) -> DiskFiles<F>
         requires all { length disks.items ≡ dims.now.disks }
         requires size { dims.now.places * dims.now.block < 2 ^ 63 }
         ensures { result.dims ≡ dims.now }
@@ -32,12 +37,16 @@ impl<F: Files> DiskFiles<F> {
         }
     }
 
-    /// Makes durable what was written.
-    pub fn sync(&self) -> io::Result<()> {
-        for disk in &self.disks {
-            disk.sync_all()?;
+    /// Makes durable what was written, in the files that were written.
+    pub fn sync(&mut self) -> io::Result<()>
+        ensures dims { self.new.dims ≡ self.old.dims }
+        ensures disks { OnOk result (All (λ file. file.is_written ≡ false) self.new.disks.items) }
+        ensures slate { OnOk result (self.new.slate.is_written ≡ false) }
+    {
+        for disk in self.disks.iter_mut() {
+            disk.sync()?;
         }
-        self.slate.sync_all()
+        self.slate.sync()
     }
 }
 
@@ -45,7 +54,7 @@ impl<F: Files> DiskFiles<F>
 where
     F::File: FileExt,
 {
-    /// Reads a block into the bytes of its disk.
+    // Reads a block into the bytes of its disk.
     fn read_block(&self, disk: usize, place: u64, bytes: &mut [u8]) -> io::Result<()>
         requires disk { disk < self.now.dims.disks }
         requires place { place < self.now.dims.places }
@@ -55,18 +64,19 @@ where
     {
         let block = self.dims.block as usize;
         let start = disk * block;
-        self.disks[disk].read_exact_at(&mut bytes[start..start + block], place * block as u64)
+        self.disks[disk].read_unit(place, &mut bytes[start..start + block])
     }
 
-    /// Writes a block from the bytes of its disk.
-    fn write_block(&self, disk: usize, place: u64, bytes: &[u8]) -> io::Result<()>
-        requires disk { disk < self.now.dims.disks }
-        requires place { place < self.now.dims.places }
-        requires bytes { length bytes.now ≡ self.now.dims.disks * self.now.dims.block }
+    // Writes a block from the bytes of its disk.
+    fn write_block(&mut self, disk: usize, place: u64, bytes: &[u8]) -> io::Result<()>
+        requires disk { disk < self.old.dims.disks }
+        requires place { place < self.old.dims.places }
+        requires bytes { length bytes.now ≡ self.old.dims.disks * self.old.dims.block }
+        ensures { self.new.dims ≡ self.old.dims }
     {
         let block = self.dims.block as usize;
         let start = disk * block;
-        self.disks[disk].write_all_at(&bytes[start..start + block], place * block as u64)
+        self.disks[disk].write_unit(place, &bytes[start..start + block])
     }
 
     /// Reads the blocks of a row. The bytes of disks that take no part stay.
@@ -84,8 +94,9 @@ where
     }
 
     /// Writes the blocks of a row.
-    pub fn write_row(&self, places: &[Option<u64>], bytes: &[u8]) -> io::Result<()>
-        requires { RowFits (Some self.now.dims) places.now (length bytes.now) }
+    pub fn write_row(&mut self, places: &[Option<u64>], bytes: &[u8]) -> io::Result<()>
+        requires { RowFits (Some self.old.dims) places.now (length bytes.now) }
+        ensures { self.new.dims ≡ self.old.dims }
     {
         for (disk, place) in places.iter().enumerate() {
             if let Some(place) = *place {
@@ -97,16 +108,13 @@ where
 
     /// Reads a page of the slate.
     pub fn read_page(&self, page: u16, bytes: &mut [u8; PAGE_BYTES]) -> io::Result<()> {
-        self.slate.read_exact_at(bytes, page_start(page))
+        self.slate.read_unit(u64::from(page), bytes)
     }
 
     /// Writes a page of the slate.
-    pub fn write_page(&self, page: u16, bytes: &[u8; PAGE_BYTES]) -> io::Result<()> {
-        self.slate.write_all_at(bytes, page_start(page))
+    pub fn write_page(&mut self, page: u16, bytes: &[u8; PAGE_BYTES]) -> io::Result<()>
+        ensures { self.new.dims ≡ self.old.dims }
+    {
+        self.slate.write_unit(u64::from(page), bytes)
     }
-}
-
-/// Where a page begins in the slate's file.
-fn page_start(page: u16) -> u64 {
-    u64::from(page) * PAGE_BYTES as u64
 }

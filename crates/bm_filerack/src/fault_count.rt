@@ -1,4 +1,5 @@
 //! The count of a device's faults.
+
 ghost use Rattle.std.specs.Prelude.{◌^◌, ◌<◌, ◌≤◌, IsErr};
 ghost use Rattle.bm_base.specs.Count.{Rose};
 

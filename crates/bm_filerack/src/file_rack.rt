@@ -1,10 +1,13 @@
 //! A rack over files.
-ghost use Rattle.std.specs.Prelude.{◌≡◌, ◌^◌, ◌<◌, ◌≤◌, false, None, IfOk, option_map, IsErr};
+
+ghost use Rattle.std.specs.Prelude.{◌≡◌, ◌^◌, ◌<◌, ◌≤◌, ◌↔◌, false, None, codes, IfOk, option_map, IsTrue, IsOk, IsErr};
+ghost use Rattle.std.specs.String.{string_bytes};
 ghost use Rattle.bm_base.specs.Count.{Rose};
 
 use crate::disk_files::DiskFiles;
 use crate::fault_count::{count_fault, fault};
 use crate::file_error::FileError;
+use crate::file_lock::LockFile;
 use crate::folder::Folder;
 use bm_base::{Dims, Failed, OutOfMemory};
 use bm_rack::{AttachError, CreateError, Found, Rack};
@@ -14,8 +17,11 @@ use std::rt::Files;
 
 /// A rack of files: the slate, and a file for each disk. No contract sees what they hold.
 ///
-/// The slate is the file `bmmc-slate`, disk k the file `bmmc-disk-kk` with two decimal digits.
-/// A call may fail at any time.
+/// The slate is the file `bmmc-slate`, disk k the file `bmmc-disk-kk` with two decimal digits. Each
+/// may be a symbolic link to a file elsewhere. A call may fail at any time.
+///
+/// An attach takes a lock on the slate, which lasts until the rack is attached anew or let go: while
+/// another rack holds it, in this program or another, an attach fails.
 #[derive(Drop)]
 pub struct FileRack<'a, F: Files> {
     folder: Folder<'a, F>,
@@ -33,18 +39,21 @@ pub struct FileRack<'a, F: Files> {
 impl<'a, F: Files> FileRack<'a, F> {
     /// The rack of the current folder, with nothing attached.
     pub fn new(rt: &'a F, alloc: Global) -> Result<FileRack<'a, F>, OutOfMemory>
+        ensures folder { IfOk result (λ rack. string_bytes rack.folder.folder ≡ codes ".") }
+        ensures front { IfOk result (λ rack. string_bytes rack.folder.path.front ≡ codes "bmmc-") }
         ensures attached { IfOk result (λ rack. rack.files ≡ None) }
         ensures counts { IfOk result (λ rack.
             (rack.faults ≡ 0) × (rack.moves ≡ 0) × (rack.pages ≡ 0) × (rack.syncs ≡ 0)) }
     {
-        match format!(in alloc; "bmmc-") {
-            Ok(prefix) => Ok(FileRack::over(Folder::new(rt, alloc, prefix))),
+        match Folder::new(rt, alloc, ".", "bmmc-") {
+            Ok(folder) => Ok(FileRack::over(folder)),
             Err(_) => Err(OutOfMemory),
         }
     }
 
-    /// The rack of these files, with nothing attached.
+    // The rack of these files, with nothing attached.
     fn over(folder: Folder<'a, F>) -> FileRack<'a, F>
+        ensures folder { result.folder ≡ folder.entry }
         ensures attached { result.files ≡ None }
         ensures counts { (result.faults ≡ 0) × (result.moves ≡ 0) × (result.pages ≡ 0) × (result.syncs ≡ 0) }
     {
@@ -58,10 +67,11 @@ impl<'a, F: Files> FileRack<'a, F> {
         }
     }
 
-    /// The answer of a call on the open files, which counts a fault where it was not done.
+    // The answer of a call on the open files, which counts a fault where it was not done.
     fn settle(&mut self, done: bool) -> Result<(), Failed>
         ensures files { self.new.files ≡ self.old.files }
         ensures faults { self.old.faults ≤ self.new.faults }
+        ensures done { IsOk result ↔ IsTrue done }
         ensures cause { IsErr result → Rose self.old.faults self.new.faults }
         ensures moves { self.new.moves ≡ self.old.moves }
         ensures pages { self.new.pages ≡ self.old.pages }
@@ -77,7 +87,7 @@ impl<'a, F: Files> FileRack<'a, F> {
 
 impl<'a, F: Files> Rack for FileRack<'a, F>
 where
-    F::File: FileExt,
+    F::File: FileExt + LockFile,
 {
     ghost use Rattle.bm_rack.specs.Untold.{untold_view};
     ghost use Rattle.bm_filerack.specs.FileRack.{untold_is_consistent};
@@ -103,7 +113,7 @@ where
                 Ok(Found::Ready)
             }
             Err(FileError::OutOfMemory) => Err(AttachError::OutOfMemory),
-            Err(FileError::Failed) => {
+            Err(_) => {
                 count_fault(&mut self.faults);
                 Err(AttachError::Failed)
             }
@@ -120,6 +130,7 @@ where
         match made {
             Ok(()) => Ok(()),
             Err(FileError::OutOfMemory) => Err(CreateError::OutOfMemory),
+            Err(FileError::Taken) => Err(CreateError::Present),
             Err(FileError::Failed) => {
                 count_fault(&mut self.faults);
                 Err(CreateError::Failed)
@@ -138,7 +149,7 @@ where
 
     fn write_row(&mut self, places: &[Option<u64>], bytes: &[u8]) -> Result<(), Failed> {
         self.moves = self.moves.saturating_add(1);
-        let done = match &self.files {
+        let done = match &mut self.files {
             Some(files) => files.write_row(places, bytes).is_ok(),
             None => unreachable!(),
         };
@@ -156,7 +167,7 @@ where
 
     fn write_page(&mut self, page: u16, bytes: &[u8; 512]) -> Result<(), Failed> {
         self.pages = self.pages.saturating_add(1);
-        let done = match &self.files {
+        let done = match &mut self.files {
             Some(files) => files.write_page(page, bytes).is_ok(),
             None => unreachable!(),
         };
@@ -165,7 +176,7 @@ where
 
     fn sync(&mut self) -> Result<(), Failed> {
         self.syncs = self.syncs.saturating_add(1);
-        let done = match &self.files {
+        let done = match &mut self.files {
             Some(files) => files.sync().is_ok(),
             None => unreachable!(),
         };

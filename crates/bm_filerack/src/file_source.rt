@@ -1,5 +1,6 @@
 //! A file as a source.
-ghost use Rattle.std.specs.Prelude.{◌≡◌, ◌<◌, ◌≤◌, ◌^◌, ℕ, false, [], None, length, IsErr};
+
+ghost use Rattle.std.specs.Prelude.{◌≡◌, ◌<◌, ◌≤◌, ◌^◌, ℕ, false, [], None, length, IsOk, IsErr};
 ghost use Rattle.bm_base.specs.Count.{Rose};
 ghost use Rattle.bm_rack.specs.Source.{SourceRead};
 
@@ -44,6 +45,7 @@ impl<F: Files> Source for FileSource<F> {
     fn read(&mut self, into: &mut [u8]) -> Result<usize, Failed>
         ensures read { SourceRead false [] (length into.old) result into.new [] }
         ensures faults { self.old.faults ≤ self.new.faults }
+        ensures quiet { IsOk result → self.new.faults ≡ self.old.faults }
         ensures cause { IsErr result → Rose self.old.faults self.new.faults }
         ensures missing { self.old.file ≡ None → IsErr result }
         ensures still_missing { self.old.file ≡ None → self.new.file ≡ None }

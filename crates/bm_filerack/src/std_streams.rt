@@ -1,4 +1,5 @@
 //! Readers and writers of std as a source and a sink.
+
 ghost use Rattle.std.specs.Prelude.{◌≡◌, ◌<◌, ◌^◌, false, []};
 
 use crate::fault_count::fault;
