@@ -1,4 +1,7 @@
 pub mod PlacesLemmas
+pub mod ClearLemmas
 pub mod RunLemmas
 pub mod StepLemmas
 pub mod TileLemmas
+pub mod PartLemmas
+pub mod FourLemmas

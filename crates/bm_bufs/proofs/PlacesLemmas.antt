@@ -1,12 +1,10 @@
 -- Records that are placed one after another.
-use Rattle.std.proofs.Common.{◌≡◌, ◌≢◌, ℕ, ◌+◌, ◌^◌, ◌<◌, ◌≤◌, inl, inr, ⊎_elim, List, length, bit_xor, refl, sym, ap, ◌∙◌, arith}
+use Rattle.std.proofs.Common.{◌≡◌, ◌≢◌, ℕ, ◌+◌, ◌^◌, ◌<◌, ◌≤◌, inl, inr, ⊎_elim, List, length, refl, sym, ap, ◌∙◌, arith}
 use Rattle.std.specs.Fork.{slice_chunk}
-use Rattle.std.specs.Int.Bits.{xor_self}
-use Rattle.std.proofs.lemmas.Nat.{xor_lt}
 use Rattle.std.proofs.lemmas.Bool.{cases_eq}
 use Rattle.bm_gf2.specs.declared.matrix.Matrix.{Matrix}
-use Rattle.bm_gf2.specs.Matrix.{column, image, IsNonsingular}
-use Rattle.bm_gf2.proofs.VectorLemmas.{xor_sum-xor, xor_cancel, eq_of_xor-zero}
+use Rattle.bm_gf2.specs.Matrix.{IsNonsingular}
+use Rattle.bm_gf2.proofs.MapLemmas.{images_apart}
 use Rattle.bm_bufs.specs.Places.{places_by, PlacesRecords}
 
 -- different numbers have different places
@@ -15,12 +13,8 @@ pub record IsInjective (place : ℕ → ℕ) (n : ℕ) : Type 0 where
 
 -- a nonsingular matrix keeps different numbers apart
 pub places_by-injective : (a : Matrix) (plus : ℕ) → IsNonsingular a → IsInjective (places_by a plus) a.n
-places_by-injective a plus nonsingular = record {
-  apart = λ x y short_x short_y differ same.
-      let images : image a x ≡ image a y = sym (xor_cancel plus (image a x)) ∙ ap (bit_xor plus) same ∙ xor_cancel plus (image a y) in
-      differ (eq_of_xor-zero x y (nonsingular (bit_xor x y) (xor_lt a.n x y short_x short_y)
-      (xor_sum-xor (column a) a.n x y ∙ ap (λ c. bit_xor c (image a y)) images ∙ xor_self (image a y))));
-}
+places_by-injective a plus nonsingular =
+    record { apart = λ x y short_x short_y differ. images_apart a plus x y nonsingular short_x short_y differ }
 
 -- no record is placed yet
 pub PlacesRecords-none : (place : ℕ → ℕ) (n width first : ℕ) (row load : List ℕ) → PlacesRecords place n width first 0 row load load

@@ -22,7 +22,7 @@ first_clear r low = ap (λ x. x % 2 ^ low) (let e : r * 2 ^ low ≡ r * 2 ^ low 
     ∙ mod-mul-add r (2 ^ low) 0 (pow_pos low)
 
 -- a number without low bits is that of its run
-whole_run : (x low : ℕ) → x % 2 ^ low ≡ 0 → x / 2 ^ low * 2 ^ low ≡ x
+pub whole_run : (x low : ℕ) → x % 2 ^ low ≡ 0 → x / 2 ^ low * 2 ^ low ≡ x
 whole_run x low none = let parts : x % 2 ^ low + x / 2 ^ low * 2 ^ low ≡ x = mod-add-div' x (2 ^ low) in omega arith
 
 -- columns of 0
@@ -80,27 +80,41 @@ run_nonsingular a runs plus low keeps is nonsingular r short none =
     ⊎_elim (λ (p : r < 1). omega arith)
     (λ (p : 1 ≤ r). let more : 1 * 2 ^ low ≤ r * 2 ^ low = mul-le-mul_right (2 ^ low) p in absurd (omega arith)) (cases_lt r 1)
 
+-- the place of a run's first record has no low bits
+pub place_of_first : (a : Matrix) (plus low r : ℕ) → KeepsRuns a plus low → places_by a plus (r * 2 ^ low) % 2 ^ low ≡ 0
+place_of_first a plus low r keeps =
+    xor_mod plus (image a (r * 2 ^ low)) low ∙ xor_same keeps.constant (image_clear a plus low r keeps) ∙ xor_self 0
+
+-- those of its other records follow
+pub place_follows : (a : Matrix) (plus low r j : ℕ) → KeepsRuns a plus low → j < 2 ^ low
+    → places_by a plus (r * 2 ^ low + j) ≡ places_by a plus (r * 2 ^ low) + j
+place_follows a plus low r j keeps small =
+    let own : image a j ≡ j = xor_sum-above (column a) low a.n j (omega (arith, keeps.inside)) small
+    ∙ xor_sum-ext (column a) (λ i. 2 ^ i) low j keeps.units ∙ xor_sum-units low j ∙ mod-eq_of_lt small in
+    let M = image a (r * 2 ^ low) in
+    let first = bit_xor plus M in
+    let whole = whole_run first low (place_of_first a plus low r keeps) in
+    ap (λ y. bit_xor plus (image a y)) (sym (xor_shifted r low j small))
+    ∙ ap (bit_xor plus) (xor_sum-xor (column a) a.n (r * 2 ^ low) j ∙ ap (bit_xor M) own)
+    ∙ sym (xor_assoc plus M j)
+    ∙ ap (λ y. bit_xor y j) (sym whole)
+    ∙ xor_shifted (first / 2 ^ low) low j small
+    ∙ ap (λ y. y + j) whole
+
 -- the place of a run's record
 pub place_in_run : (a runs : Matrix) (plus low x : ℕ) → KeepsRuns a plus low → IsRunMatrix a low runs
     → places_by a plus x ≡ places_by runs (plus / 2 ^ low) (x / 2 ^ low) * 2 ^ low + x % 2 ^ low
 place_in_run a runs plus low x keeps is =
     let r = x / 2 ^ low in
     let j = x % 2 ^ low in
-    let small : j < 2 ^ low = mod-lt x (pow_pos low) in
     let parts : j + r * 2 ^ low ≡ x = mod-add-div' x (2 ^ low) in
-    let xored : bit_xor (r * 2 ^ low) j ≡ x = xor_shifted r low j small ∙ (let e : r * 2 ^ low + j ≡ x = omega arith in e) in
-    let own : image a j ≡ j = xor_sum-above (column a) low a.n j (omega (arith, keeps.inside)) small
-    ∙ xor_sum-ext (column a) (λ i. 2 ^ i) low j keeps.units ∙ xor_sum-units low j ∙ mod-eq_of_lt small in
     let M = image a (r * 2 ^ low) in
     let first = bit_xor plus M in
-    let clear : first % 2 ^ low ≡ 0 = xor_mod plus M low ∙ xor_same keeps.constant (image_clear a plus low r keeps) ∙ xor_self 0 in
     let run : places_by runs (plus / 2 ^ low) r ≡ first / 2 ^ low =
     ap (bit_xor (plus / 2 ^ low)) (image_of_run a runs plus low r keeps is) ∙ sym (xor_shr plus M low) in
-    ap (λ y. bit_xor plus (image a y)) (sym xored)
-    ∙ ap (bit_xor plus) (xor_sum-xor (column a) a.n (r * 2 ^ low) j ∙ ap (bit_xor M) own)
-    ∙ sym (xor_assoc plus M j)
-    ∙ ap (λ y. bit_xor y j) (sym (whole_run first low clear) ∙ ap (λ y. y * 2 ^ low) (sym run))
-    ∙ xor_shifted (places_by runs (plus / 2 ^ low) r) low j small
+    ap (places_by a plus) (let e : x ≡ r * 2 ^ low + j = omega arith in e)
+    ∙ place_follows a plus low r j keeps (mod-lt x (pow_pos low))
+    ∙ ap (λ y. y + j) (sym (whole_run first low (place_of_first a plus low r keeps)) ∙ ap (λ y. y * 2 ^ low) (sym run))
 
 -- a record of a run
 chunk_of_run : (width size i j : ℕ) (xs : List ℕ) → j < size

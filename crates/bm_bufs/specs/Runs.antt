@@ -10,6 +10,11 @@ pub record KeepsRuns (a : Matrix) (plus low : ℕ) : Type 0 where
   pub others : (j : ℕ) → low ≤ j → j < a.n → column a j % 2 ^ low ≡ 0
   pub constant : plus % 2 ^ low ≡ 0
 
+-- what this asks of column j: it is a unit where j < low, and has no low bit elsewhere
+pub record FitsRuns (column j low : ℕ) : Type 0 where
+  pub unit : j < low → column ≡ 2 ^ j
+  pub clear : low ≤ j → column % 2 ^ low ≡ 0
+
 -- runs sends the number of a run to the number of its places' run
 pub record IsRunMatrix (a : Matrix) (low : ℕ) (runs : Matrix) : Type 0 where
   pub size : runs.n ≡ a.n - low

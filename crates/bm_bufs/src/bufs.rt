@@ -143,6 +143,7 @@ impl Bufs {
             count,
         );
     }
+
     /// Moves the record of each place of the load list to where the map's placing sends it.
     ///
     /// The row list is scratch: it may hold anything afterwards. The two lists keep their lengths.

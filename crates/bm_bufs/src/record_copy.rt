@@ -1,11 +1,12 @@
 //! Copies of records from a row to their places in a load.
 
-ghost use Rattle.std.specs.Prelude.{◌≡◌, ◌≢◌, ℕ, ◌+◌, ◌*◌, ◌^◌, ◌<◌, ◌≤◌, length, bit_xor};
+ghost use Rattle.std.specs.Prelude.{◌≡◌, ◌≢◌, ℕ, ◌+◌, ◌*◌, ◌%◌, ◌^◌, ◌<◌, ◌≤◌, length, bit_xor};
 ghost use Rattle.std.specs.Fork.{slice_chunk};
 ghost use Rattle.bm_gf2.specs.Matrix.{image, IsNonsingular};
 ghost use Rattle.bm_bufs.specs.Places.{places_by, PlacesRecords};
 
 use crate::runs::{run_bits, run_matrix};
+use crate::tile_steps::step_table;
 use bm_gf2::{Matrix, Stepper};
 
 /// Copies record j of one list over record i of another.
@@ -76,8 +77,8 @@ pub fn place_records(
     }
 }
 
-/// The same for a width that is known beforehand.
-pub fn place_records_w<const W: usize>(
+// The same for a width that is known beforehand, one record after another.
+fn place_ones_w<const W: usize>(
     load: &mut [u8],
     row: &[u8],
     a: &Matrix,
@@ -100,6 +101,67 @@ pub fn place_records_w<const W: usize>(
     for r in 0..count {
         copy_record_w::<W>(load, stepper.here() as usize, row, r);
         stepper.step();
+    }
+}
+
+// The same, by four records at a time: from one of them to the next the place changes by the first
+// two columns, and from four to the next four by one look into a table.
+fn place_fours_w<const W: usize>(
+    load: &mut [u8],
+    row: &[u8],
+    a: &Matrix,
+    plus: u64,
+    first: u64,
+    count: usize,
+)
+    requires nonsingular { IsNonsingular a.now }
+    requires plus { plus < 2 ^ a.now.n }
+    requires load { length load.old ≡ 2 ^ a.now.n * W }
+    requires row { count * W ≤ length row.now }
+    requires numbers { first + count ≤ 2 ^ a.now.n }
+    requires bits { 2 ≤ a.now.n }
+    requires some { 0 < count }
+    requires first_whole { first % 4 ≡ 0 }
+    requires count_whole { count % 4 ≡ 0 }
+    ensures placed { PlacesRecords (places_by a.now plus) a.now.n W first count
+        row.now load.old load.new }
+{
+    let one = a.cols[0];
+    let two = a.cols[1];
+    let fours = step_table(a, 2, a.n);
+    let mut here = plus ^ a.apply(first);
+    for q in 0..count / 4 {
+        let r = 4 * q;
+        copy_record_w::<W>(load, here as usize, row, r);
+        copy_record_w::<W>(load, (here ^ one) as usize, row, r + 1);
+        copy_record_w::<W>(load, (here ^ two) as usize, row, r + 2);
+        copy_record_w::<W>(load, (here ^ one ^ two) as usize, row, r + 3);
+        here ^= fours[(first / 4 + q as u64).trailing_ones() as usize];
+    }
+}
+
+/// The same for a width that is known beforehand, by four records at a time where there are whole
+/// fours.
+pub fn place_records_w<const W: usize>(
+    load: &mut [u8],
+    row: &[u8],
+    a: &Matrix,
+    plus: u64,
+    first: u64,
+    count: usize,
+)
+    requires nonsingular { IsNonsingular a.now }
+    requires plus { plus < 2 ^ a.now.n }
+    requires load { length load.old ≡ 2 ^ a.now.n * W }
+    requires row { count * W ≤ length row.now }
+    requires numbers { first + count ≤ 2 ^ a.now.n }
+    ensures placed { PlacesRecords (places_by a.now plus) a.now.n W first count
+        row.now load.old load.new }
+{
+    if count > 0 && a.n >= 2 && first % 4 == 0 && count % 4 == 0 {
+        place_fours_w::<W>(load, row, a, plus, first, count);
+    } else {
+        place_ones_w::<W>(load, row, a, plus, first, count);
     }
 }
 

@@ -1,74 +1,52 @@
 //! Runs of records that move as a whole.
 
-ghost use Rattle.std.specs.Prelude.{◌≡◌, ℕ, ◌+◌, ◌-◌, ◌/◌, ◌%◌, ◌^◌, ◌<◌, ◌≤◌, IsTrue};
-ghost use Rattle.bm_gf2.specs.Matrix.{column};
-ghost use Rattle.bm_bufs.specs.Runs.{KeepsRuns, IsRunMatrix};
+ghost use Rattle.std.specs.Prelude.{◌≡◌, ℕ, ◌%◌, ◌^◌, ◌<◌, ◌≤◌, ◌↔◌};
+ghost use Rattle.bm_bufs.specs.Runs.{FitsRuns, KeepsRuns, IsRunMatrix};
 
 use bm_gf2::{Matrix, no_columns};
 
-// Whether the low columns are units.
-fn has_units(a: &Matrix, low: u8) -> bool
-    requires { low < a.now.n }
-    ensures { IsTrue result → (j : ℕ) → j < low → column a.now j ≡ 2 ^ j }
+// The most bits, up to 64, that are all 0 at the end of a number.
+fn clear_bits(v: u64) -> u8
+    ensures { (k : ℕ) → k ≤ 64 → (k ≤ result) ↔ (v % 2 ^ k ≡ 0) }
 {
-    for j in 0..low {
-        if a.cols[usize::from(j)] != 1 << j {
-            return false;
-        }
-    }
-    true
+    v.trailing_zeros() as u8
 }
 
-// Whether the other columns have no low bits.
-fn is_clear_above(a: &Matrix, low: u8) -> bool
-    requires { low < a.now.n }
-    ensures { IsTrue result → (j : ℕ) → low ≤ j → j < a.now.n → column a.now j % 2 ^ low ≡ 0 }
+// The most bits of runs that are kept by a column, as far as it decides: 64 where it allows any.
+fn column_bits(column: u64, j: u8) -> u8
+    requires { j < 52 }
+    ensures { (k : ℕ) → k ≤ 52 → (k ≤ result) ↔ FitsRuns column j k }
 {
-    for j in low..a.n {
-        if a.cols[usize::from(j)] % (1 << low) != 0 {
-            return false;
-        }
+    if column == 1 << j {
+        64
+    } else {
+        clear_bits(column).min(j)
     }
-    true
 }
 
-// The number of low columns that are units, as far as no other column and not `bits` have a
-// bit there.
-fn unit_columns(a: &Matrix, bits: u64) -> u8
-    ensures { result < a.now.n }
+// The most low columns that are units, as far as no other column and not `plus` have a bit there.
+fn unit_columns(a: &Matrix, plus: u64) -> u8
+    ensures { (k : ℕ) → (k ≤ result) ↔ KeepsRuns a.now plus k }
 {
-    let mut units = 0;
-    let mut others = bits;
+    let mut most = clear_bits(plus).min(a.n - 1);
     for j in 0..a.n {
-        let column = a.cols[usize::from(j)];
-        if units == j && column == 1 << j {
-            units += 1;
-        } else {
-            others |= column;
-        }
+        most = most.min(column_bits(a.cols[usize::from(j)], j));
     }
-    units.min(others.trailing_zeros() as u8).min(a.n - 1)
+    most
 }
 
 /// The bits of the numbers within a run: of `count` records from `first` on, so many to the power
-/// of two move together.
+/// of two move together. It is the greatest such number.
 pub fn run_bits(a: &Matrix, plus: u64, first: u64, count: u64) -> u8
     ensures keeps { KeepsRuns a.now plus result }
     ensures first { first % 2 ^ result ≡ 0 }
     ensures count { count % 2 ^ result ≡ 0 }
+    ensures greatest { (k : ℕ) → KeepsRuns a.now plus k → first % 2 ^ k ≡ 0 → count % 2 ^ k ≡ 0
+        → k ≤ result }
 {
-    let low = unit_columns(a, plus | first | count);
-    let size = 1 << low;
-    if plus % size == 0
-        && first % size == 0
-        && count % size == 0
-        && has_units(a, low)
-        && is_clear_above(a, low)
-    {
-        low
-    } else {
-        0
-    }
+    unit_columns(a, plus)
+        .min(clear_bits(first))
+        .min(clear_bits(count))
 }
 
 /// The map of the runs' numbers.

@@ -7,7 +7,7 @@ ghost use Rattle.bm_bufs.specs.TileMoves.{IsStepTable};
 use crate::tile_map::TileMap;
 use bm_gf2::Matrix;
 
-/// A place in the table for each number of trailing ones, 0 to 52.
+// A place in the table for each number of trailing ones, 0 to 52.
 const STEPS: usize = 53;
 
 /// A tile map with tables of its steps.
@@ -31,8 +31,8 @@ pub struct TileSteps {
     pub ghost fours_table: { IsStepTable (column map.back) 2 map.low fours },
 }
 
-// The table of the steps by 2^first numbers, where the columns from `count` on are left out.
-fn step_table(a: &Matrix, first: u8, count: u8) -> [u64; STEPS]
+/// The table of the steps by 2^first numbers, where the columns from `count` on are left out.
+pub fn step_table(a: &Matrix, first: u8, count: u8) -> [u64; STEPS]
     requires first { first ≤ 52 }
     requires count { count ≤ a.now.n }
     ensures { IsStepTable (column a.now) first count result }

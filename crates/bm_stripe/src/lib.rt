@@ -1,4 +1,5 @@
 //! Where records lie on a rack, and moves of loads and stripes between a rack and buffers.
+
 #![tactic(auto)]
 
 mod loads;

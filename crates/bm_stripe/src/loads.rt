@@ -1,9 +1,10 @@
 //! Memory loads.
+
 ghost use Rattle.std.specs.Prelude.{◌≡◌, ℕ, ◌+◌, ◌-◌, ◌*◌, ◌^◌, ◌<◌, ◌≤◌, IsTrue, IsOk, IsErr, length, Some};
 ghost use Rattle.bm_base.specs.Shape.{dims_of, load_stripes};
 ghost use Rattle.bm_base.specs.Area.{area_start};
 ghost use Rattle.bm_base.specs.Records.{record_at, record_in};
-ghost use Rattle.bm_rack.specs.Frames.{Keeps, MakesMoves, HasCause, SameState, ChangesOnly};
+ghost use Rattle.bm_rack.specs.Frames.{Keeps, MovesRows, HasCause, SameState, ChangesOnly};
 ghost use Rattle.bm_stripe.specs.Units.{IsLoadUnit};
 
 use crate::rows::{read_rows, write_rows};
@@ -11,7 +12,7 @@ use crate::spot::place_in_area;
 use bm_base::{Area, Failed, Shape};
 use bm_rack::Rack;
 
-/// The first place of a load of an area.
+// The first place of a load of an area.
 fn first_place(shape: &Shape, area: Area, load: u64) -> u64
     requires { load < 2 ^ (shape.now.n - shape.now.m) }
     ensures { result ≡ area_start shape.now area + load * load_stripes shape.now }
@@ -37,7 +38,8 @@ pub fn read_load<R: Rack>(
         → record_in shape.now buf.new i
         ≡ record_at (R.view rack.old).contents shape.now area (2 ^ shape.now.m * load + i) }
     ensures state { SameState (R.view rack.old) (R.view rack.new) }
-    ensures moved { MakesMoves (load_stripes shape.now) (R.view rack.old) (R.view rack.new) result }
+    ensures moved { MovesRows (load_stripes shape.now) (IsOk result)
+        (R.view rack.old) (R.view rack.new) }
     ensures keeps { Keeps (R.view rack.old) (R.view rack.new) }
     ensures cause { HasCause (IsErr result) (R.view rack.old) (R.view rack.new) }
 {
@@ -64,7 +66,8 @@ pub fn write_load<R: Rack>(
         ≡ record_in shape.now buf.now i }
     ensures only { ChangesOnly (IsLoadUnit shape.now area load)
         (R.view rack.old) (R.view rack.new) }
-    ensures moved { MakesMoves (load_stripes shape.now) (R.view rack.old) (R.view rack.new) result }
+    ensures moved { MovesRows (load_stripes shape.now) (IsOk result)
+        (R.view rack.old) (R.view rack.new) }
     ensures keeps { Keeps (R.view rack.old) (R.view rack.new) }
     ensures cause { HasCause (IsErr result) (R.view rack.old) (R.view rack.new) }
 {

@@ -1,23 +1,24 @@
 //! Rows that follow one another.
+
 ghost use Rattle.std.specs.Prelude.{◌≡◌, ℕ, ◌+◌, ◌*◌, ◌<◌, ◌≤◌, IsTrue, IsOk, IsErr, length, take, Some};
 ghost use Rattle.std.specs.Fork.{slice_chunk};
 ghost use Rattle.bm_rack.specs.Calls.{RowWritten, place_on};
-ghost use Rattle.bm_rack.specs.Frames.{Keeps, RaisesCounts, MakesMoves, HasCause, SameState, ChangesOnly};
+ghost use Rattle.bm_rack.specs.Frames.{Keeps, RaisesCounts, MovesRows, HasCause, SameState, ChangesOnly};
 ghost use Rattle.bm_stripe.specs.Rows.{HoldsRows, IsRowsUnit, following};
 
-use bm_base::{Dims, Failed};
+use bm_base::{Dims, Failed, MOST_DISKS};
 use bm_rack::Rack;
 
-/// The most disks of a rack.
-pub const MOST_DISKS: usize = 64;
+/// The entries of a row of places: one for each disk that a rack can have.
+pub const ROW_PLACES: usize = MOST_DISKS as usize;
 
-/// One place on each disk.
-fn same_places(place: u64) -> [Option<u64>; MOST_DISKS]
+// One place on each disk.
+fn same_places(place: u64) -> [Option<u64>; ROW_PLACES]
     ensures length { length result ≡ 64 }
     ensures each { (disk : ℕ) → disk < 64 → place_on result disk ≡ Some place }
 {
-    let mut places = [None; MOST_DISKS];
-    for disk in 0..MOST_DISKS {
+    let mut places = [None; ROW_PLACES];
+    for disk in 0..ROW_PLACES {
         places[disk] = Some(place);
     }
     places
@@ -38,7 +39,7 @@ pub fn read_rows<R: Rack>(
     ensures bytes { IsTrue R.tells_contents → IsOk result
         → HoldsRows dims (R.view rack.old).contents (following first) rows buf.new }
     ensures state { SameState (R.view rack.old) (R.view rack.new) }
-    ensures moved { MakesMoves rows (R.view rack.old) (R.view rack.new) result }
+    ensures moved { MovesRows rows (IsOk result) (R.view rack.old) (R.view rack.new) }
     ensures keeps { Keeps (R.view rack.old) (R.view rack.new) }
     ensures cause { HasCause (IsErr result) (R.view rack.old) (R.view rack.new) }
 {
@@ -56,7 +57,7 @@ pub fn read_rows<R: Rack>(
 pub fn write_row_of<R: Rack>(
     rack: &mut R,
     dims: Dims,
-    places: &[Option<u64>; MOST_DISKS],
+    places: &[Option<u64>; ROW_PLACES],
     row: u64,
     buf: &[u8],
 ) -> Result<(), Failed>
@@ -95,7 +96,7 @@ pub fn write_rows<R: Rack>(
         → HoldsRows dims (R.view rack.new).contents (following first) rows buf.now }
     ensures only { ChangesOnly (IsRowsUnit dims.disks (following first) rows)
         (R.view rack.old) (R.view rack.new) }
-    ensures moved { MakesMoves rows (R.view rack.old) (R.view rack.new) result }
+    ensures moved { MovesRows rows (IsOk result) (R.view rack.old) (R.view rack.new) }
     ensures keeps { Keeps (R.view rack.old) (R.view rack.new) }
     ensures cause { HasCause (IsErr result) (R.view rack.old) (R.view rack.new) }
 {

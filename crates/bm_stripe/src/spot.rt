@@ -1,4 +1,5 @@
 //! Where a record lies.
+
 ghost use Rattle.std.specs.Prelude.{◌≡◌, ℕ, ◌+◌, ◌-◌, ◌*◌, ◌^◌, ◌<◌, ◌≤◌};
 ghost use Rattle.bm_base.specs.Shape.{stripes};
 ghost use Rattle.bm_base.specs.Area.{area_start};

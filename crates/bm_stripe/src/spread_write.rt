@@ -1,20 +1,21 @@
 //! Writes that spread the blocks of a buffer over the loads of an area.
+
 ghost use Rattle.std.specs.Prelude.{◌≡◌, ℕ, ◌+◌, ◌-◌, ◌*◌, ◌/◌, ◌^◌, ◌<◌, ◌≤◌, IsTrue, IsOk, IsErr, length, Some};
 ghost use Rattle.bm_base.specs.Shape.{dims_of, stripes, load_stripes};
 ghost use Rattle.bm_base.specs.Records.{record_at, record_in};
 ghost use Rattle.bm_gf2.specs.Spread.{spread_value};
 ghost use Rattle.bm_rack.specs.Calls.{place_on};
-ghost use Rattle.bm_rack.specs.Frames.{Keeps, MakesMoves, HasCause, ChangesOnly};
+ghost use Rattle.bm_rack.specs.Frames.{Keeps, MovesRows, HasCause, ChangesOnly};
 ghost use Rattle.bm_stripe.specs.Units.{IsSpreadUnit};
 ghost use Rattle.bm_stripe.specs.Rows.{spread_place};
 
-use crate::rows::{MOST_DISKS, write_row_of};
+use crate::rows::{ROW_PLACES, write_row_of};
 use crate::spot::place_in_area;
 use bm_base::{Area, Failed, Shape};
 use bm_gf2::Spread;
 use bm_rack::Rack;
 
-/// The place of block `row * D + disk`: in the load that the spread gives it, in that load's row.
+// The place of block `row * D + disk`: in the load that the spread gives it, in that load's row.
 fn place_of_block(shape: &Shape, area: Area, spread: &Spread, row: u64, disk: u64) -> u64
     requires columns { spread.now.map.count ≡ shape.now.m - shape.now.b }
     requires loads { (t : ℕ) → t < 2 ^ (shape.now.m - shape.now.b)
@@ -28,8 +29,8 @@ fn place_of_block(shape: &Shape, area: Area, spread: &Spread, row: u64, disk: u6
     place_in_area(shape, area, load * shape.load_stripes() + row)
 }
 
-/// The places of a row, on each of the D disks that of its block.
-fn places_of_row(shape: &Shape, area: Area, spread: &Spread, row: u64) -> [Option<u64>; MOST_DISKS]
+// The places of a row, on each of the D disks that of its block.
+fn places_of_row(shape: &Shape, area: Area, spread: &Spread, row: u64) -> [Option<u64>; ROW_PLACES]
     requires columns { spread.now.map.count ≡ shape.now.m - shape.now.b }
     requires loads { (t : ℕ) → t < 2 ^ (shape.now.m - shape.now.b)
         → spread_value spread.now t < 2 ^ (shape.now.n - shape.now.m) }
@@ -38,7 +39,7 @@ fn places_of_row(shape: &Shape, area: Area, spread: &Spread, row: u64) -> [Optio
     ensures each { (disk : ℕ) → disk < 2 ^ shape.now.d
         → place_on result disk ≡ Some (spread_place shape.now area spread.now row disk) }
 {
-    let mut places = [None; MOST_DISKS];
+    let mut places = [None; ROW_PLACES];
     for disk in 0..shape.dims().disks {
         places[disk as usize] = Some(place_of_block(shape, area, spread, row, u64::from(disk)));
     }
@@ -68,7 +69,8 @@ pub fn write_spread<R: Rack>(
         ≡ record_in shape.now buf.now p }
     ensures only { ChangesOnly (IsSpreadUnit shape.now area spread.now)
         (R.view rack.old) (R.view rack.new) }
-    ensures moved { MakesMoves (load_stripes shape.now) (R.view rack.old) (R.view rack.new) result }
+    ensures moved { MovesRows (load_stripes shape.now) (IsOk result)
+        (R.view rack.old) (R.view rack.new) }
     ensures keeps { Keeps (R.view rack.old) (R.view rack.new) }
     ensures cause { HasCause (IsErr result) (R.view rack.old) (R.view rack.new) }
 {

@@ -1,8 +1,9 @@
 //! Single stripes.
+
 ghost use Rattle.std.specs.Prelude.{◌≡◌, ℕ, ◌+◌, ◌-◌, ◌*◌, ◌^◌, ◌<◌, ◌≤◌, IsTrue, IsOk, IsErr, length, Some};
 ghost use Rattle.bm_base.specs.Shape.{dims_of, stripes};
 ghost use Rattle.bm_base.specs.Records.{record_at, record_in};
-ghost use Rattle.bm_rack.specs.Frames.{Keeps, MakesMoves, HasCause, SameState};
+ghost use Rattle.bm_rack.specs.Frames.{Keeps, MovesRows, HasCause, SameState};
 
 use crate::rows::read_rows;
 use crate::spot::place_in_area;
@@ -29,7 +30,7 @@ pub fn read_stripe<R: Rack>(
         ≡ record_at (R.view rack.old).contents shape.now area
         (2 ^ (shape.now.b + shape.now.d) * stripe + i) }
     ensures state { SameState (R.view rack.old) (R.view rack.new) }
-    ensures moved { MakesMoves 1 (R.view rack.old) (R.view rack.new) result }
+    ensures moved { MovesRows 1 (IsOk result) (R.view rack.old) (R.view rack.new) }
     ensures keeps { Keeps (R.view rack.old) (R.view rack.new) }
     ensures cause { HasCause (IsErr result) (R.view rack.old) (R.view rack.new) }
 {

@@ -3,7 +3,7 @@ use Rattle.std.proofs.Math.Nat.{mod-eq_of_lt}
 use Rattle.bm_gf2.specs.Matrix.{image}
 use Rattle.bm_bufs.specs.Places.{places_by}
 use Rattle.bm_bufs.proofs.PlacesLemmas.{places_by-injective, PlacesRecords-more}
-use Rattle.bm_bufs.proofs.record_copy.place_records_w.Goals as goal
+use Rattle.bm_bufs.proofs.record_copy.place_ones_w.Goals as goal
 
 pub loop-r-preserved : goal.loop-r-preserved
 loop-r-preserved g c =

@@ -1,6 +1,6 @@
 use Rattle.std.proofs.Common.{◌≡◌, ◌+◌, ◌%◌, ◌^◌}
 use Rattle.bm_bufs.specs.Places.{places_by, PlacesRecords}
-use Rattle.bm_bufs.proofs.record_copy.place_records_w.Given as goal
+use Rattle.bm_bufs.proofs.record_copy.place_ones_w.Given as goal
 
 abbrev pub invariant-loop-r : goal.invariant-loop-r
 invariant-loop-r g l = record {
