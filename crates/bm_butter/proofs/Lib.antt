@@ -10,3 +10,4 @@ pub mod CornerLemmas
 pub mod WithoutLemmas
 pub mod NumberLemmas
 pub mod LoneLemmas
+pub mod BlockLemmas

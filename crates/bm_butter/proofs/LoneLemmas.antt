@@ -3,7 +3,7 @@ use Rattle.std.proofs.Common.{◌≡◌, ◌≢◌, ℕ, ◌+◌, ◌-◌, ◌*�
 use Rattle.std.specs.Int.{bit_at}
 use Rattle.std.proofs.lemmas.Bool.{cases_eq, cases_lt}
 use Rattle.std.proofs.lemmas.Nat.{pow-add}
-use Rattle.std.proofs.lemmas.Nat.Bits.{bit_at-lt, bit_at-pow_same}
+use Rattle.std.proofs.lemmas.Nat.Bits.{bit_at-lt, bit_at-pow_same, bit_at-pow_other}
 use Rattle.bm_base.specs.Records.{SameRecords}
 use Rattle.bm_base.specs.Butterfly.{butterfly}
 use Rattle.bm_base.proofs.ButterflyLemmas.{without_bit}
@@ -18,6 +18,17 @@ use Rattle.bm_butter.proofs.QuadLemmas.{by_four}
 use Rattle.bm_butter.proofs.SpreadLemmas.{squeeze_two, squeeze_two-lt, spread_two-squeeze, two_halves}
 use Rattle.bm_butter.proofs.GroupLemmas.{IsGroup-same, SameRecords-groups}
 use Rattle.bm_butter.proofs.NumberLemmas.{clear_beside, first_of_group}
+
+-- equal units are of one row
+pub same_unit : (h k : ℕ) → 2 ^ h ≡ 2 ^ k → h ≡ k
+same_unit h k same =
+    ⊎_elim
+    (λ (p : h ≡ k). p)
+    (λ (p : h ≢ k).
+    let one = bit_at-pow_same h in
+    let none : bit_at (2 ^ h) h ≡ 0 = ap (λ c. bit_at c h) same ∙ bit_at-pow_other k h p in
+    absurd (omega arith))
+    (cases_eq h k)
 
 -- the places of a pair, u at the one where bit h is that of plus
 pub record HoldHalves (plus h sum difference : ℕ) : Type 0 where

@@ -8,9 +8,10 @@ use Rattle.bm_base.specs.Records.{SameRecords}
 use Rattle.bm_base.specs.Butterfly.{butterfly, butterflies}
 use Rattle.bm_gf2.specs.declared.matrix.Matrix.{Matrix}
 use Rattle.bm_gf2.specs.Matrix.{column, IsNonsingular}
+use Rattle.bm_gf2.proofs.MapLemmas.{images_apart}
 use Rattle.bm_butter.specs.Records.{record_at_place}
 use Rattle.bm_butter.specs.Groups.{pick, AreApart, AreTold, GroupsDone, spread, spread_two}
-use Rattle.bm_butter.proofs.PlaceLemmas.{place, place_below, places_apart, place_with_bit}
+use Rattle.bm_butter.proofs.PlaceLemmas.{place, place_below, place_with_bit}
 use Rattle.bm_butter.proofs.QuadLemmas.{by_four}
 use Rattle.bm_butter.proofs.SpreadLemmas.{squeeze_two, squeeze_two-told, squeeze_two-lt, spread_two-squeeze, spread_two-lt, spread-lt, spread_bit, spread_more, two_halves, twice_as_many}
 use Rattle.bm_butter.proofs.WithoutLemmas.{spread_low}
@@ -55,7 +56,7 @@ number_below n i w t inside short below =
 -- the same place, the same number
 same_number : (a : Matrix) (plus x y : ℕ) → IsNonsingular a → x < 2 ^ a.n → y < 2 ^ a.n → place a plus x ≡ place a plus y → x ≡ y
 same_number a plus x y nonsingular short_x short_y same =
-    ⊎_elim (λ (p : x ≡ y). p) (λ (p : x ≢ y). absurd (places_apart a plus x y nonsingular short_x short_y p same)) (cases_eq x y)
+    ⊎_elim (λ (p : x ≡ y). p) (λ (p : x ≢ y). absurd (images_apart a plus x y nonsingular short_x short_y p same)) (cases_eq x y)
 
 -- different groups have no place in common
 pub numbers_told : (a : Matrix) (plus i : ℕ) → IsNonsingular a → i + 1 < a.n → AreTold (2 ^ (a.n - 2)) (number_place a plus i)

@@ -1,7 +1,7 @@
 -- The places of numbers.
 use Rattle.std.proofs.Common.{◌≡◌, ◌≢◌, ℕ, zero, suc, ◌⊎◌, inl, inr, ⊎_elim, ◌+◌, ◌-◌, ◌*◌, ◌/◌, ◌%◌, ◌^◌, ◌<◌, bit_xor, List, sym, ap, ◌∙◌, subst, arith}
 use Rattle.std.specs.Int.{bit_at}
-use Rattle.std.specs.Int.Bits.{xor_shifted, xor_assoc, xor_self}
+use Rattle.std.specs.Int.Bits.{xor_shifted, xor_assoc}
 use Rattle.std.proofs.lemmas.Nat.{xor_comm, xor_lt, pow_pos}
 use Rattle.std.proofs.Math.Nat.{mod-add-div', two-pow-succ}
 use Rattle.bm_base.specs.Butterfly.{number_in, record_of, negative}
@@ -15,7 +15,8 @@ use Rattle.std.proofs.lemmas.Bool.{cases_eq}
 use Rattle.bm_gf2.specs.Vector.{xor_sum}
 use Rattle.bm_butter.specs.Pairs.{IsPaired}
 use Rattle.bm_butter.specs.LoneBit.{IsLoneBit}
-use Rattle.bm_gf2.proofs.VectorLemmas.{bit_cases, xor_cancel_right, xor_sum-xor, xor_sum-pow, xor_sum-lt, xor_cancel, eq_of_xor-zero}
+use Rattle.bm_gf2.proofs.MapLemmas.{images_apart}
+use Rattle.bm_gf2.proofs.VectorLemmas.{bit_cases, xor_cancel_right, xor_sum-xor, xor_sum-pow, xor_sum-lt}
 use Rattle.bm_butter.specs.Records.{record_in_order, record_at_place}
 use Rattle.bm_butter.proofs.PairedLemmas.{clear_low}
 use Rattle.bm_butter.proofs.PairLemmas.{PairsBelow, PairsBelow-pair}
@@ -27,13 +28,6 @@ place a plus x = bit_xor plus (image a x)
 -- a place lies in the list
 pub place_below : (a : Matrix) (plus x : ℕ) → plus < 2 ^ a.n → place a plus x < 2 ^ a.n
 place_below a plus x short = xor_lt a.n plus (image a x) short (xor_sum-lt (column a) a.n a.n x a.below)
-
--- different numbers have different places
-pub places_apart : (a : Matrix) (plus x y : ℕ) → IsNonsingular a → x < 2 ^ a.n → y < 2 ^ a.n → x ≢ y → place a plus x ≢ place a plus y
-places_apart a plus x y nonsingular short_x short_y differ same =
-    let images : image a x ≡ image a y = sym (xor_cancel plus (image a x)) ∙ ap (bit_xor plus) same ∙ xor_cancel plus (image a y) in
-    differ (eq_of_xor-zero x y (nonsingular (bit_xor x y) (xor_lt a.n x y short_x short_y)
-    (xor_sum-xor (column a) a.n x y ∙ ap (λ c. bit_xor c (image a y)) images ∙ xor_self (image a y))))
 
 -- setting a clear bit is an XOR
 pub set_by_xor : (i x : ℕ) → bit_at x i ≡ 0 → x + 2 ^ i ≡ bit_xor x (2 ^ i)
@@ -79,7 +73,7 @@ HoldPair-by_column a plus i x p col nonsingular short bit inside clear here is_c
     record {
       first = here;
       second = second;
-      apart = λ e. places_apart a plus x (x + 2 ^ i) nonsingular inside (set_below x i a.n inside bit clear) (λ s. absurd (omega arith))
+      apart = λ e. images_apart a plus x (x + 2 ^ i) nonsingular inside (set_below x i a.n inside bit clear) (λ s. absurd (omega arith))
           (sym here ∙ e ∙ second);
       first_below = subst (λ c. c < 2 ^ a.n) (sym here) (place_below a plus x short);
       second_below = subst (λ c. c < 2 ^ a.n) (sym second) (place_below a plus (x + 2 ^ i) short);
@@ -104,8 +98,8 @@ PairsBelow-places a plus i x p q old now new nonsingular bit inside clear hold b
     (subst (λ c. record_in_order new c ≡ record_of (number_in (record_in_order now p) + negative (number_in (record_in_order now c))))
     hold.second difference))
     (λ z below not_x not_set. others (place a plus z)
-    (λ e. places_apart a plus z x nonsingular below inside not_x (e ∙ hold.first))
-    (λ e. places_apart a plus z (x + 2 ^ i) nonsingular below (set_below x i a.n inside bit clear) not_set (e ∙ hold.second)))
+    (λ e. images_apart a plus z x nonsingular below inside not_x (e ∙ hold.first))
+    (λ e. images_apart a plus z (x + 2 ^ i) nonsingular below (set_below x i a.n inside bit clear) not_set (e ∙ hold.second)))
 
 -- the image that a stepper shows
 pub stepped_place : (a : Matrix) (plus : ℕ) (map : Affine) (position x here : ℕ) → map.a ≡ a → map.c ≡ plus → position ≡ x

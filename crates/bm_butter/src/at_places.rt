@@ -1,18 +1,20 @@
 //! Butterflies on records at the places of an affine map.
 
-ghost use Rattle.std.specs.Prelude.{◌≡◌, ℕ, ◌+◌, ◌*◌, ◌^◌, ◌<◌, ◌≤◌, length};
+ghost use Rattle.std.specs.Prelude.{◌≡◌, ℕ, ◌+◌, ◌*◌, ◌^◌, ◌<◌, ◌≤◌, List, length};
 ghost use Rattle.bm_base.specs.Records.{SameRecords};
 ghost use Rattle.bm_base.specs.Butterfly.{butterfly, butterflies};
 ghost use Rattle.bm_gf2.specs.Matrix.{IsNonsingular};
 ghost use Rattle.bm_butter.specs.Records.{record_at_place};
 ghost use Rattle.bm_butter.specs.LoneBit.{IsLoneBit};
 
+use crate::blocks::{block_bits, transform_blocks};
 use crate::lone_bit::lone_bit;
 use crate::on_bit::{Halves, butterfly_on};
 use crate::on_two_bits::{Corners, butterflies_on};
 use crate::pair::pair;
 use crate::quad::quad;
 use crate::without::without_column;
+use bm_bufs::run_bits;
 use bm_gf2::{Matrix, Stepper};
 
 // The butterfly on one bit of the numbers, number by number.
@@ -125,10 +127,33 @@ fn two_at(buf: &mut [u8], a: &Matrix, plus: u64, i: u8)
     }
 }
 
+// The butterflies on number bits `from` to `low - 1`, two bits a sweep over the buffer: what was
+// done up to bit `from` is then done up to bit `low`.
+fn sweep_at(buf: &mut [u8], a: &Matrix, plus: u64, from: u8, low: u8)
+    requires nonsingular { IsNonsingular a.now }
+    requires plus { plus < 2 ^ a.now.n }
+    requires whole { length buf.old ≡ 8 * 2 ^ a.now.n }
+    requires order { from ≤ low }
+    requires low { low ≤ a.now.n }
+    ensures size { length buf.new ≡ length buf.old }
+    ensures records { (xs : ℕ → List ℕ)
+        → SameRecords (2 ^ a.now.n) (record_at_place a.now plus buf.old) (butterflies from xs)
+        → SameRecords (2 ^ a.now.n) (record_at_place a.now plus buf.new) (butterflies low xs) }
+{
+    for two in 0..(low - from) / 2 {
+        two_at(buf, a, plus, from + 2 * two);
+    }
+    let left_over = (low - from) % 2;
+    if left_over == 1 {
+        butterfly_at(buf, a, plus, low - 1);
+    }
+}
+
 /// The butterflies on number bits 0 to low - 1, in ascending order, of records of which number i
 /// stands at the place `a i XOR plus`.
 ///
-/// The places stay as they are: afterwards number i stands there again.
+/// The places stay as they are: afterwards number i stands there again. Low bits that are bits of
+/// the places go block by block, where the caches hold what they need.
 pub fn butterflies_at(buf: &mut [u8], a: &Matrix, plus: u64, low: u8)
     requires nonsingular { IsNonsingular a.now }
     requires plus { plus < 2 ^ a.now.n }
@@ -138,11 +163,7 @@ pub fn butterflies_at(buf: &mut [u8], a: &Matrix, plus: u64, low: u8)
     ensures records { SameRecords (2 ^ a.now.n) (record_at_place a.now plus buf.new)
         (butterflies low (record_at_place a.now plus buf.old)) }
 {
-    for two in 0..low / 2 {
-        two_at(buf, a, plus, 2 * two);
-    }
-    let left_over = low % 2;
-    if left_over == 1 {
-        butterfly_at(buf, a, plus, low - 1);
-    }
+    let on_blocks = block_bits(low.min(run_bits(a, plus, 0, 0)));
+    transform_blocks(buf, on_blocks);
+    sweep_at(buf, a, plus, on_blocks, low);
 }

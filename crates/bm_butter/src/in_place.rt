@@ -1,10 +1,11 @@
 //! Butterflies on records in order of address.
 
-ghost use Rattle.std.specs.Prelude.{◌≡◌, ℕ, ◌+◌, ◌*◌, ◌/◌, ◌%◌, ◌^◌, ◌<◌, ◌≤◌, length};
+ghost use Rattle.std.specs.Prelude.{◌≡◌, ℕ, ◌+◌, ◌*◌, ◌/◌, ◌%◌, ◌^◌, ◌<◌, ◌≤◌, List, length};
 ghost use Rattle.bm_base.specs.Records.{SameRecords};
 ghost use Rattle.bm_base.specs.Butterfly.{butterfly, butterflies};
 ghost use Rattle.bm_butter.specs.Records.{record_in_order};
 
+use crate::blocks::{block_bits, transform_blocks};
 use crate::on_bit::{Halves, butterfly_on};
 use crate::on_two_bits::{Corners, butterflies_on};
 use crate::pair::RECORD_BYTES;
@@ -34,11 +35,34 @@ fn two_in_order(buf: &mut [u8], i: u8)
     butterflies_on(buf, &corners, count >> (i + 2));
 }
 
+/// The butterflies on address bits `from` to `low - 1`, two bits a sweep over the buffer: what was
+/// done up to bit `from` is then done up to bit `low`.
+pub fn sweep_in_order(buf: &mut [u8], from: u8, low: u8)
+    requires order { from ≤ low }
+    requires whole { length buf.old % (8 * 2 ^ low) ≡ 0 }
+    requires some { 0 < length buf.old }
+    ensures size { length buf.new ≡ length buf.old }
+    ensures records { (xs : ℕ → List ℕ)
+        → SameRecords (length buf.old / 8) (record_in_order buf.old) (butterflies from xs)
+        → SameRecords (length buf.old / 8) (record_in_order buf.new) (butterflies low xs) }
+{
+    for two in 0..(low - from) / 2 {
+        two_in_order(buf, from + 2 * two);
+    }
+    let left_over = (low - from) % 2;
+    if left_over == 1 {
+        butterfly_in_order(buf, low - 1);
+    }
+}
+
 /// The butterflies on address bits 0 to low - 1, in ascending order, of the records in a buffer.
 ///
 /// A record is a little-endian u64. The butterfly on a bit takes each pair (u, v) at the addresses
 /// without and with the bit to (u + v, u - v) modulo 2^64. Over all bits they are the fast
 /// Walsh-Hadamard transform (Shanks).
+///
+/// The low bits go block by block, where the caches hold what they need, and each two of the others
+/// in a sweep over the buffer.
 pub fn butterflies(buf: &mut [u8], low: u8)
     requires whole { length buf.old % (8 * 2 ^ low) ≡ 0 }
     ensures size { length buf.new ≡ length buf.old }
@@ -48,11 +72,7 @@ pub fn butterflies(buf: &mut [u8], low: u8)
     if buf.is_empty() {
         return;
     }
-    for two in 0..low / 2 {
-        two_in_order(buf, 2 * two);
-    }
-    let left_over = low % 2;
-    if left_over == 1 {
-        butterfly_in_order(buf, low - 1);
-    }
+    let on_blocks = block_bits(low);
+    transform_blocks(buf, on_blocks);
+    sweep_in_order(buf, on_blocks, low);
 }

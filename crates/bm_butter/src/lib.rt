@@ -1,7 +1,9 @@
 //! The butterflies of the Walsh-Hadamard transform, on records in memory.
+
 #![tactic(auto)]
 
 mod at_places;
+mod blocks;
 mod in_place;
 mod lone_bit;
 mod on_bit;

@@ -1,44 +1,25 @@
-use Rattle.std.proofs.Common.{◌+◌, ◌-◌, ◌*◌, ◌≡◌, ◌^◌, refl, ◌∙◌, subst, arith}
+use Rattle.std.proofs.Common.{◌≡◌, ◌/◌, ◌^◌, length, subst, arith}
 use Rattle.bm_base.specs.Records.{SameRecords}
 use Rattle.bm_base.specs.Butterfly.{butterflies}
-use Rattle.bm_butter.specs.Records.{record_at_place}
-use Rattle.bm_butter.proofs.PairLemmas.{butterflies-more}
-use Rattle.bm_butter.proofs.GroupLemmas.{butterflies-two}
-use Rattle.bm_butter.proofs.SizeLemmas.{power_whole}
+use Rattle.bm_butter.specs.Records.{record_in_order, record_at_place}
+use Rattle.bm_butter.proofs.BlockLemmas.{blocks_at_places, power_blocks_whole}
 use Rattle.bm_butter.proofs.at_places.butterflies_at.Goals as goal
 
-pub loop-two-init : goal.loop-two-init
-unfolding butterflies
-loop-two-init c = record { size = refl; records = λ x inside. refl }
+pub transform_blocks-requires-clause-whole : goal.transform_blocks-requires-clause-whole
+transform_blocks-requires-clause-whole c =
+    let within = c.block_bits-on_blocks.ensures.within in
+    power_blocks_whole (length c.args.buf.now) c.args.a.now.n c.block_bits-on_blocks.result c.requires.whole
+    (omega (arith, within, c.min.ensures, c.requires.low))
 
-pub loop-two-preserved : goal.loop-two-preserved
-loop-two-preserved c =
+pub returns-clause-records : goal.returns-clause-records
+returns-clause-records c =
     let a = c.args.a.now in
-    let inv = c.loop-two.invariant in
-    let test = c.loop-two-test.true in
-    let i = 2 * c.loop-two.two in
-    let rec = record_at_place a c.args.plus in
-    record {
-      size = c.two_at.ensures.size ∙ inv.size;
-      records = subst (λ k. SameRecords (2 ^ a.n) (rec c.two_at.new.buf) (butterflies k (rec c.args.buf.now)))
-          (let e : i + 1 + 1 ≡ 2 * (c.loop-two.two + 1) = omega arith in e)
-          (butterflies-two i (2 ^ a.n) (rec c.args.buf.now) (rec c.loop-two.buf) (rec c.two_at.new.buf)
-          (power_whole a.n (i + 1) (omega (arith, c.requires.low))) (power_whole a.n (i + 1 + 1) (omega (arith, c.requires.low))) inv.records
-          c.two_at.ensures.records);
-    }
-
-pub returns-then-left_over-eq1-clause-records : goal.returns-then-left_over-eq1-clause-records
-returns-then-left_over-eq1-clause-records c =
-    let a = c.args.a.now in
-    let low = c.args.low in
-    let inv = c.loop-two.invariant in
-    let test = c.loop-two-test.false in
-    let odd = c.if-left_over-eq1.true in
-    let rec = record_at_place a c.args.plus in
-    let end : 2 * c.loop-two.two ≡ low - 1 = omega (arith, c.loop-two.auto.two-end) in
-    subst (λ k. SameRecords (2 ^ a.n) (rec c.butterfly_at.new.buf) (butterflies k (rec c.args.buf.now)))
-    (let e : low - 1 + 1 ≡ low = omega arith in e)
-    (butterflies-more (low - 1) (2 ^ a.n) (rec c.args.buf.now) (rec c.loop-two.buf) (rec c.butterfly_at.new.buf)
-    (power_whole a.n (low - 1 + 1) (omega (arith, c.requires.low)))
-    (subst (λ k. SameRecords (2 ^ a.n) (rec c.loop-two.buf) (butterflies k (rec c.args.buf.now))) end inv.records)
-    c.butterfly_at.ensures.records)
+    let old = c.args.buf.now in
+    let mid = c.transform_blocks.new.buf in
+    let bits = c.block_bits-on_blocks.result in
+    let within = c.block_bits-on_blocks.ensures.within in
+    let count : length old / 8 ≡ 2 ^ a.n = omega (arith, c.requires.whole) in
+    c.sweep_at.ensures.records (record_at_place a c.args.plus old)
+    (blocks_at_places a c.args.plus bits c.run_bits.result old mid c.requires.plus c.run_bits.ensures.keeps
+    (omega (arith, within, c.min.ensures))
+    (subst (λ k. SameRecords k (record_in_order mid) (butterflies bits (record_in_order old))) count c.transform_blocks.ensures.records))
