@@ -3,6 +3,7 @@ use Rattle.std.proofs.Common.{◌≡◌, ◌≢◌, ℕ, ⊎_elim, ◌+◌, ◌-
 use Rattle.std.proofs.lemmas.Bool.{cases_lt}
 use Rattle.std.proofs.lemmas.Nat.{pow-add, shr_split, div-mul-add}
 use Rattle.std.proofs.Math.Nat.{mul_comm, mul-le-mul_right}
+use Rattle.bm_base.proofs.CaseLemmas.{plus_same}
 use Rattle.bm_base.specs.declared.shape.Shape.{Shape}
 use Rattle.bm_base.specs.declared.area.Area.{Area}
 use Rattle.bm_base.specs.Contents.{Contents, RackUnit}
@@ -33,9 +34,6 @@ pub IsTargetUnit-area : (s : Shape) (pass : PassForm) (to : Area) (load : ℕ) (
 IsTargetUnit-area s pass to load u of is =
     subst (IsAreaUnit s to) (sym is.2)
     (IsAreaUnit-record s to (target s pass load is.0) (image_below_records s pass (2 ^ s.m * load + is.0) of))
-
-plus_same : {a b c d : ℕ} → a ≡ c → b ≡ d → a + b ≡ c + d
-plus_same p q = cc
 
 -- records in one block of an area have addresses in one block
 same_block : (s : Shape) (area : Area) (x y : ℕ) → record_unit s area x ≡ record_unit s area y → x / 2 ^ s.b ≡ y / 2 ^ s.b
@@ -121,10 +119,6 @@ LoadsMoved-all s pass from to loads old new of all moved y below =
     let from_below : source f y < 2 ^ s.m * loads =
     subst (λ k. source f y < k) (sym records) (subst (λ k. source f y < 2 ^ k) of.addresses (source-lt f y)) in
     subst (λ c. record_at new s to c ≡ passed pass (record_at old s from) c) found (moved (source f y) from_below)
-
--- one load's row calls more
-pub rows_more : (load rows : ℕ) → load * rows + rows ≡ (load + 1) * rows
-rows_more load rows = omega arith
 
 -- the row calls of all loads are the pass's
 pub rows_of_pass : (s : Shape) → 2 ^ (s.n - s.m) * (2 * load_stripes s) ≡ 2 * stripes s

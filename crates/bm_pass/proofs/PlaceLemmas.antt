@@ -1,11 +1,10 @@
 -- The records of a load, row after row, and the place of each number.
-use Rattle.std.proofs.Common.{◌≡◌, ℕ, inl, ⊎_elim, ◌+◌, ◌-◌, ◌*◌, ◌/◌, ◌%◌, ◌^◌, ◌<◌, ◌≤◌, List, length, drop, bit_xor, sym, ap, ◌∙◌, subst, arith}
+use Rattle.std.proofs.Common.{◌≡◌, ℕ, inl, ⊎_elim, ◌+◌, ◌-◌, ◌*◌, ◌/◌, ◌%◌, ◌^◌, ◌<◌, ◌≤◌, List, length, bit_xor, sym, ap, ◌∙◌, subst, arith}
 use Rattle.std.specs.Fork.{slice_chunk}
-use Rattle.std.specs.List.{refill}
 use Rattle.std.proofs.lemmas.Bool.{cases_lt}
 use Rattle.std.proofs.lemmas.Nat.{pow_pos, pow-add, xor_lt, shl_whole}
-use Rattle.std.proofs.lemmas.List.{take-append-le, take_all}
 use Rattle.std.proofs.Math.Nat.{mod-lt, mul-le-mul_right, mul-div_cancel}
+use Rattle.bm_base.proofs.CaseLemmas.{refill_all}
 use Rattle.bm_base.specs.declared.shape.Shape.{Shape}
 use Rattle.bm_base.specs.declared.area.Area.{Area}
 use Rattle.bm_base.specs.Contents.{Contents}
@@ -21,10 +20,6 @@ use Rattle.bm_bufs.specs.Bufs.{Lists, FitsShape, with_row, with_load}
 use Rattle.bm_bufs.specs.Places.{places_by}
 use Rattle.bm_bufs.specs.Placing.{row_records, HasPlaces, PlacesRow}
 use Rattle.bm_pass.specs.LoadPlaces.{IsOfLoad, HoldsRowsOfLoad}
-
--- a list that was filled up to its length again
-refill_all : (xs ws : List ℕ) → length ws ≡ length xs → refill (length xs) xs ws ≡ ws
-refill_all xs ws same = take-append-le (length xs) ws (drop (length ws) xs) (omega arith) ∙ take_all (length xs) ws (omega arith)
 
 -- the row list after a read
 pub row_read : (lists : Lists) (bytes : List ℕ) → length bytes ≡ length lists.row → (with_row lists bytes).row ≡ bytes

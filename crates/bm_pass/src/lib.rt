@@ -1,7 +1,9 @@
 //! One pass over the records of an area: load after load through two buffers, to another area.
+
 #![tactic(auto)]
 
 mod one_load;
+mod rows;
 mod whole_pass;
 
 pub use one_load::load_step;

@@ -1,5 +1,6 @@
 //! One load of a pass.
-ghost use Rattle.std.specs.Prelude.{◌≡◌, ◌≢◌, ℕ, ◌+◌, ◌-◌, ◌*◌, ◌^◌, ◌<◌, ◌≤◌, IsTrue, IsErr, OnOk, Some, length};
+
+ghost use Rattle.std.specs.Prelude.{◌≡◌, ◌≢◌, ℕ, ◌+◌, ◌-◌, ◌*◌, ◌^◌, ◌<◌, ◌≤◌, IsTrue, IsOk, IsErr, OnOk, Some, length};
 ghost use Rattle.bm_base.specs.declared.shape.Shape.{Shape};
 ghost use Rattle.bm_base.specs.Shape.{dims_of, load_stripes};
 ghost use Rattle.bm_base.specs.Records.{SameRecords};
@@ -7,50 +8,20 @@ ghost use Rattle.bm_base.specs.Butterfly.{butterflies};
 ghost use Rattle.bm_gf2.specs.Matrix.{IsNonsingular};
 ghost use Rattle.bm_bufs.specs.Bufs.{FitsShape};
 ghost use Rattle.bm_forms.specs.PassForm.{IsOfShape};
-ghost use Rattle.bm_rack.specs.Frames.{Keeps, MakesMoves, HasCause, SameState, ChangesOnly};
-ghost use Rattle.bm_pass.specs.LoadPlaces.{IsOfLoad, AddsRow, HoldsLoad, placed_record};
+ghost use Rattle.bm_rack.specs.Frames.{Keeps, MovesRows, HasCause, SameState, ChangesOnly};
+ghost use Rattle.bm_pass.specs.LoadPlaces.{IsOfLoad, HoldsLoad, placed_record};
 ghost use Rattle.bm_pass.specs.LoadMove.{LoadMoved, IsTargetUnit};
 
+use crate::rows::fill_row;
 use bm_base::{Area, Failed, Shape};
 use bm_bufs::{Bufs, Placing};
 use bm_butter::butterflies_at;
 use bm_forms::PassForm;
 use bm_rack::Rack;
 use bm_split::best_split;
-use bm_stripe::{read_stripe, write_spread};
+use bm_stripe::write_spread;
 
-/// Reads one row of a load into the row list, and places its records in the load list.
-fn fill_row<R: Rack>(
-    rack: &mut R,
-    shape: &Shape,
-    from: Area,
-    load: u64,
-    row: u64,
-    placing: &Placing,
-    bufs: &mut Bufs,
-) -> Result<(), Failed>
-    requires attached { (R.view rack.old).attached ≡ Some (dims_of shape.now) }
-    requires load { load < 2 ^ (shape.now.n - shape.now.m) }
-    requires row { row < load_stripes shape.now }
-    requires placing { IsOfLoad shape.now placing.now }
-    requires fits { FitsShape shape.now bufs.old }
-
-    ensures records { IsTrue R.tells_contents
-        → OnOk result (AddsRow shape.now placing.now from load (R.view rack.old).contents row
-        bufs.old.load bufs.new.load) }
-    ensures fits { FitsShape shape.now bufs.new }
-    ensures state { SameState (R.view rack.old) (R.view rack.new) }
-    ensures moved { MakesMoves 1 (R.view rack.old) (R.view rack.new) result }
-    ensures keeps { Keeps (R.view rack.old) (R.view rack.new) }
-    ensures cause { HasCause (IsErr result) (R.view rack.old) (R.view rack.new) }
-{
-    let stripe = load * shape.load_stripes() + row;
-    read_stripe(rack, shape, from, stripe, bufs.row_mut())?;
-    bufs.place_row(placing, row << (shape.b() + shape.d()));
-    Ok(())
-}
-
-/// Reads the rows of a load, each record to its place in the load list, in M/BD row calls.
+// Reads the rows of a load, each record to its place in the load list, in M/BD row calls.
 fn fill_rows<R: Rack>(
     rack: &mut R,
     shape: &Shape,
@@ -69,7 +40,8 @@ fn fill_rows<R: Rack>(
         bufs.new.load) }
     ensures fits { FitsShape shape.now bufs.new }
     ensures state { SameState (R.view rack.old) (R.view rack.new) }
-    ensures moved { MakesMoves (load_stripes shape.now) (R.view rack.old) (R.view rack.new) result }
+    ensures moved { MovesRows (load_stripes shape.now) (IsOk result)
+        (R.view rack.old) (R.view rack.new) }
     ensures keeps { Keeps (R.view rack.old) (R.view rack.new) }
     ensures cause { HasCause (IsErr result) (R.view rack.old) (R.view rack.new) }
 {
@@ -79,10 +51,10 @@ fn fill_rows<R: Rack>(
     Ok(())
 }
 
-/// Reads a load into the load list, each record to its place, in M/BD row calls.
-///
-/// Where that is faster the records go in two steps: whole runs as the rows arrive, and then records
-/// within tiles.
+// Reads a load into the load list, each record to its place, in M/BD row calls.
+//
+// Where that is faster the records go in two steps: whole runs as the rows arrive, and then records
+// within tiles.
 fn fill_load<R: Rack>(
     rack: &mut R,
     shape: &Shape,
@@ -101,7 +73,8 @@ fn fill_load<R: Rack>(
         bufs.new.load) }
     ensures fits { FitsShape shape.now bufs.new }
     ensures state { SameState (R.view rack.old) (R.view rack.new) }
-    ensures moved { MakesMoves (load_stripes shape.now) (R.view rack.old) (R.view rack.new) result }
+    ensures moved { MovesRows (load_stripes shape.now) (IsOk result)
+        (R.view rack.old) (R.view rack.new) }
     ensures keeps { Keeps (R.view rack.old) (R.view rack.new) }
     ensures cause { HasCause (IsErr result) (R.view rack.old) (R.view rack.new) }
 {
@@ -115,7 +88,7 @@ fn fill_load<R: Rack>(
     }
 }
 
-/// Does the butterflies of a pass on the bits below `low`, on a load's records at their places.
+// Does the butterflies of a pass on the bits below `low`, on a load's records at their places.
 fn mix_load(placing: &Placing, low: u8, bufs: &mut Bufs)
     requires nonsingular { IsNonsingular placing.now.a }
     requires plus { placing.now.plus < 2 ^ placing.now.a.n }
@@ -158,8 +131,8 @@ pub fn load_step<R: Rack>(
     ensures only { ChangesOnly (IsTargetUnit shape.now pass.now to load)
         (R.view rack.old) (R.view rack.new) }
     ensures fits { FitsShape shape.now bufs.new }
-    ensures moved { MakesMoves (2 * load_stripes shape.now)
-        (R.view rack.old) (R.view rack.new) result }
+    ensures moved { MovesRows (2 * load_stripes shape.now) (IsOk result)
+        (R.view rack.old) (R.view rack.new) }
     ensures keeps { Keeps (R.view rack.old) (R.view rack.new) }
     ensures cause { HasCause (IsErr result) (R.view rack.old) (R.view rack.new) }
 {

@@ -1,10 +1,11 @@
 //! All loads of a pass.
-ghost use Rattle.std.specs.Prelude.{◌≡◌, ◌≢◌, ℕ, ◌+◌, ◌-◌, ◌*◌, ◌^◌, ◌<◌, ◌≤◌, IsTrue, IsErr, OnOk, Some};
+
+ghost use Rattle.std.specs.Prelude.{◌≡◌, ◌≢◌, ℕ, ◌+◌, ◌-◌, ◌*◌, ◌^◌, ◌<◌, ◌≤◌, IsTrue, IsOk, IsErr, OnOk, Some};
 ghost use Rattle.bm_base.specs.Shape.{dims_of, stripes};
 ghost use Rattle.bm_base.specs.Records.{SameRecords, record_at};
 ghost use Rattle.bm_bufs.specs.Bufs.{FitsShape};
 ghost use Rattle.bm_forms.specs.PassForm.{IsOfShape, passed};
-ghost use Rattle.bm_rack.specs.Frames.{Keeps, MakesMoves, HasCause, ChangesOnly};
+ghost use Rattle.bm_rack.specs.Frames.{Keeps, MovesRows, HasCause, ChangesOnly};
 ghost use Rattle.bm_stripe.specs.Units.{IsAreaUnit};
 
 use crate::one_load::load_step;
@@ -39,7 +40,8 @@ pub fn run_pass<R: Rack>(
         (passed pass.now (record_at (R.view rack.old).contents shape.now from))) }
     ensures only { ChangesOnly (IsAreaUnit shape.now to) (R.view rack.old) (R.view rack.new) }
     ensures fits { FitsShape shape.now bufs.new }
-    ensures moved { MakesMoves (2 * stripes shape.now) (R.view rack.old) (R.view rack.new) result }
+    ensures moved { MovesRows (2 * stripes shape.now) (IsOk result)
+        (R.view rack.old) (R.view rack.new) }
     ensures keeps { Keeps (R.view rack.old) (R.view rack.new) }
     ensures cause { HasCause (IsErr result) (R.view rack.old) (R.view rack.new) }
 {

@@ -3,4 +3,3 @@ pub mod StepLemmas
 pub mod BasisLemmas
 pub mod TileBasisLemmas
 pub mod TilingLemmas
-pub mod ChoiceLemmas

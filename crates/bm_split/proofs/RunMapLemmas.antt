@@ -1,9 +1,7 @@
 -- Maps that keep the low bits of a number.
-use Rattle.std.proofs.Common.{◌≡◌, ◌≢◌, ℕ, ◌+◌, ◌-◌, ◌*◌, ◌/◌, ◌%◌, ◌^◌, ◌<◌, ◌≤◌, false, List, length, set, length-set, get_or-set_other, get_or-set_same, slice_index, refl, sym, ap, ◌∙◌, subst, arith, ⊎_elim}
+use Rattle.std.proofs.Common.{◌≡◌, ◌≢◌, ℕ, ◌+◌, ◌-◌, ◌*◌, ◌/◌, ◌%◌, ◌^◌, ◌<◌, ◌≤◌, List, length, set, length-set, get_or-set_other, get_or-set_same, slice_index, refl, sym, ap, ◌∙◌, subst, arith, ⊎_elim}
 use Rattle.std.proofs.lemmas.Nat.{shl_below, shr_below, shl-shr, one_shl, pow_below, pow-add, xor_comm}
-use Rattle.std.specs.Prelude.{nat_lt, nat_le}
-use Rattle.std.proofs.lemmas.Bool.{cases_lt, cases_eq}
-use Rattle.std.proofs.lemmas.Bool.Decides.{nat_tests}
+use Rattle.std.proofs.lemmas.Bool.{cases_lt, cases_eq, le-ltb, lt-leb}
 use Rattle.bm_base.specs.ShapeRules.{broken_rule}
 use Rattle.std.specs.Int.Bits.{xor_zero_r}
 use Rattle.std.proofs.Math.Nat.{mod-eq_of_lt, div-eq_of_lt, mul-mod_left, div-add-mod', zero-div}
@@ -172,23 +170,16 @@ run_map_nonsingular a low tops inside is only = λ x l sent.
 
 -- ---- the shape of a run
 
--- tests of numbers that say no
-not_below : (a b : ℕ) → b ≤ a → nat_lt a b ≡ false
-not_below a b h = grind (arith, nat_tests)
-
-not_within : (a b : ℕ) → b < a → nat_le a b ≡ false
-not_within a b h = grind (arith, nat_tests)
-
 -- a memory that holds one run breaks no rule
 pub run_shape : (n low : ℕ) → n ≤ 52 → 1 ≤ low → low ≤ 30 → low ≤ n → broken_rule n 0 0 low 1 ≡ 0
 run_shape n low addresses some few inside =
     let run : 2 ^ low ≤ 2 ^ 30 = pow_mono {i = low} {j = 30} few in
     let all : 2 ^ n ≤ 4503599627370496 = pow_mono {i = n} {j = 52} addresses in
     rw (
-      not_below 52 n addresses,
-      not_within low 0 (omega arith),
-      not_below low 0 (omega arith),
-      not_below n low inside,
-      not_below (2 ^ 30) (2 ^ low * 1) (omega arith),
-      not_below (2 ^ 63) (3 * 2 ^ n * 1) (omega arith),
+      le-ltb 52 n addresses,
+      lt-leb low 0 (omega arith),
+      le-ltb low 0 (omega arith),
+      le-ltb n low inside,
+      le-ltb (2 ^ 30) (2 ^ low * 1) (omega arith),
+      le-ltb (2 ^ 63) (3 * 2 ^ n * 1) (omega arith),
     ) refl

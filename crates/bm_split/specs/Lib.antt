@@ -2,5 +2,4 @@ pub mod RunMap
 pub mod Bases
 pub mod Tiling
 pub mod Splits
-pub mod Locality
-pub mod Runs
+pub mod MostBits

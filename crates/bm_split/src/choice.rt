@@ -1,10 +1,11 @@
 //! The two steps by which a placing is fastest.
+//!
+//! The bounds were measured. They decide speed alone, and no contract speaks of them.
 
-ghost use Rattle.std.specs.Prelude.{◌≡◌, ℕ, ◌+◌, ◌*◌, ◌^◌, ◌<◌, ◌≤◌, ◌↔◌, IsTrue, IfSome, IsSome};
-ghost use Rattle.bm_gf2.specs.Matrix.{IsNonsingular};
+ghost use Rattle.std.specs.Prelude.{◌≡◌, ◌+◌, ◌^◌, ◌<◌, ◌≤◌, IfSome};
+ghost use Rattle.bm_rank.specs.Rank.{rank_of_rows};
 ghost use Rattle.bm_split.specs.Splits.{IsSplit};
-ghost use Rattle.bm_split.specs.Locality.{IsMostBits, IsLocal};
-ghost use Rattle.bm_split.specs.Runs.{IsRun, IsLarge, Pays, Serves};
+ghost use Rattle.bm_split.specs.MostBits.{IsMostBits};
 
 use crate::split::Split;
 use crate::splitting::split_placing;
@@ -15,6 +16,20 @@ use bm_rank::rank_of;
 const CACHE_BYTES: u64 = 32768;
 
 const LINE_BYTES: u64 = 64;
+
+// What a page of memory holds, in bytes.
+const PAGE_BYTES: u64 = 4096;
+
+// The bits of the most pages that records of a cache may go to at once, of less than 8 bytes and of
+// others.
+const MOST_STREAM_BITS_OF_NARROW: u8 = 4;
+
+const MOST_STREAM_BITS: u8 = 5;
+
+// The bits of neighbours that may go to 2 pages at most, where the records of a cache go to more.
+const NEIGHBOUR_BITS: u8 = 5;
+
+const MOST_NEIGHBOUR_STREAM_BITS: u8 = 1;
 
 // Loads below this many bytes stay in the processor's caches, and records of so many bytes and more
 // are placed one by one as fast in larger ones.
@@ -47,11 +62,9 @@ fn most_bits(bytes: u64, width: u16, most: u8) -> u8
     0
 }
 
-// Whether records that follow one another go to few units: those that a cache holds go to no more
-// units than they fill. A unit is a line, or 8 records where these are more.
-fn is_local(placing: &Placing) -> bool
-    ensures { IsTrue result ↔ IsLocal placing.now }
-{
+// Whether those records that a cache holds fill the units that they go to. A unit is a line, or 8
+// records where these are more.
+fn fills_lines(placing: &Placing) -> bool {
     let n = placing.a.n;
     let cached = most_bits(CACHE_BYTES, placing.width, n);
     let bytes = LINE_BYTES.max(8 * u64::from(placing.width));
@@ -59,11 +72,30 @@ fn is_local(placing: &Placing) -> bool
     rank_of(&placing.a, unit, cached) + unit <= cached
 }
 
+// Whether those records go to few pages, or leave a page seldom. Lines at powers of two share the
+// sets of a cache, so with more streams a line leaves the cache before it is full.
+fn has_few_streams(placing: &Placing) -> bool {
+    let n = placing.a.n;
+    let cached = most_bits(CACHE_BYTES, placing.width, n);
+    let page = most_bits(PAGE_BYTES, placing.width, n);
+    let most = if placing.width < 8 {
+        MOST_STREAM_BITS_OF_NARROW
+    } else {
+        MOST_STREAM_BITS
+    };
+    let neighbours = NEIGHBOUR_BITS.min(n);
+    rank_of(&placing.a, page, cached) <= most
+        || rank_of(&placing.a, page, neighbours) <= MOST_NEIGHBOUR_STREAM_BITS
+}
+
+// Whether records that follow one another stay in few lines of few pages.
+fn is_local(placing: &Placing) -> bool {
+    fills_lines(placing) && has_few_streams(placing)
+}
+
 // Whether runs of 2^low records are worth moving as a whole.
-#[tactic(auto, using(crate::proofs::RunMapLemmas::one_shifted))]
 fn is_run(width: u16, low: u8) -> bool
     requires { low ≤ 52 }
-    ensures { IsTrue result ↔ IsRun width low }
 {
     let most = if width == 1 {
         RUN_BYTES_AT_ONE
@@ -75,10 +107,7 @@ fn is_run(width: u16, low: u8) -> bool
 }
 
 // Whether the load is larger than what caches hold.
-#[tactic(auto, using(crate::proofs::RunMapLemmas::one_shifted))]
-fn is_large(placing: &Placing) -> bool
-    ensures { IsTrue result ↔ IsLarge placing.now }
-{
+fn is_large(placing: &Placing) -> bool {
     let least = if placing.width < WIDE {
         LARGE_LOAD
     } else {
@@ -87,15 +116,12 @@ fn is_large(placing: &Placing) -> bool
     u64::from(placing.width).saturating_mul(1 << placing.a.n) >= least
 }
 
-// The split by the largest runs that serve.
-fn largest_split(placing: &Placing, room: u8) -> Option<Split>
+// The split by the longest runs that are worth it and whose tiles fit the room.
+fn longest_split(placing: &Placing, room: u8) -> Option<Split>
     requires { placing.now.plus < 2 ^ placing.now.a.n }
     ensures split { IfSome result (IsSplit placing.now room) }
-    ensures serves { IfSome result (λ s. Serves placing.now room s.inner.low) }
-    ensures largest { IfSome result (λ s. (low : ℕ)
-        → Serves placing.now room low → low ≤ s.inner.low) }
-    ensures found { (low : ℕ) → IsNonsingular placing.now.a
-        → Serves placing.now room low → IsSome result }
+    ensures tile { IfSome result (λ s.
+        s.inner.tile ≡ s.inner.low + rank_of_rows placing.now.a.cols s.inner.low s.inner.low) }
 {
     for low in (3..placing.a.n).rev() {
         if is_run(placing.width, low) {
@@ -109,23 +135,19 @@ fn largest_split(placing: &Placing, room: u8) -> Option<Split>
 }
 
 /// The two steps by which the placing is fastest, or nothing where its records are best placed
-/// one by one: where the map is local, records are wider than 256 bytes, or the load has less than
-/// 1 MiB (4 MiB for records of 32 bytes and more), and where no tile of at most 2^room records serves.
+/// one by one: where neighbours stay in few lines of few pages, records are wide, or the load is
+/// one that caches hold, and where no tile of at most 2^room records serves.
 ///
-/// Of the runs that serve it takes the largest. A run has at least 8 records and 32 bytes, and at
+/// Of the runs that serve it takes the longest. A run has at least 8 records and 32 bytes, and at
 /// most 2 KiB, or 512 bytes of records of one byte.
 pub fn best_split(placing: &Placing, room: u8) -> Option<Split>
     requires { placing.now.plus < 2 ^ placing.now.a.n }
     ensures split { IfSome result (IsSplit placing.now room) }
-    ensures pays { IfSome result (λ _. Pays placing.now) }
-    ensures serves { IfSome result (λ s. Serves placing.now room s.inner.low) }
-    ensures largest { IfSome result (λ s. (low : ℕ)
-        → Serves placing.now room low → low ≤ s.inner.low) }
-    ensures found { (low : ℕ) → Pays placing.now → IsNonsingular placing.now.a
-        → Serves placing.now room low → IsSome result }
+    ensures tile { IfSome result (λ s.
+        s.inner.tile ≡ s.inner.low + rank_of_rows placing.now.a.cols s.inner.low s.inner.low) }
 {
     if placing.width > WIDEST || !is_large(placing) || is_local(placing) {
         return None;
     }
-    largest_split(placing, room)
+    longest_split(placing, room)
 }

@@ -1,4 +1,5 @@
 //! A placing as two steps: whole runs of records first, and then records within tiles.
+
 #![tactic(auto)]
 
 mod choice;

@@ -4,7 +4,7 @@ use Rattle.bm_rack.proofs.FrameLemmas.{ChangesOnly-same, ChangesOnly-trans, Chan
 use Rattle.bm_stripe.specs.Units.{IsSpreadUnit}
 use Rattle.bm_pass.specs.LoadPlaces.{IsOfLoad}
 use Rattle.bm_pass.specs.LoadMove.{IsTargetUnit}
-use Rattle.bm_pass.proofs.MoveLemmas.{on_ok_from}
+use Rattle.bm_pass.proofs.CaseLemmas.{on_ok_from}
 use Rattle.bm_pass.proofs.LoadLemmas.{SendsToTargets-form, LoadMoved-written, IsTargetUnit-spread}
 use Rattle.bm_pass.proofs.one_load.load_step.Goals as goal
 

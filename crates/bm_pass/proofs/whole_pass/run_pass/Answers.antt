@@ -1,20 +1,18 @@
-use Rattle.std.proofs.Common.{rules, ◌≡◌, ◌+◌, ◌-◌, ◌*◌, ◌^◌, ◌<◌, refl, subst, ◌∙◌, ap, arith}
+use Rattle.std.proofs.Common.{rules, ◌≡◌, ◌-◌, ◌*◌, ◌^◌, ◌<◌, refl, subst, ◌∙◌, ap, arith}
 use Rattle.bm_base.specs.Shape.{stripes, load_stripes}
+use Rattle.bm_rack.proofs.CallLemmas.{MovesRows-refl, MovesRows-next, MovesRows-failed, MovesRows-all}
 use Rattle.bm_rack.proofs.FrameLemmas.{Keeps-trans, ChangesOnly-trans, ChangesOnly-wider}
 use Rattle.bm_stripe.specs.Units.{IsAreaUnit}
 use Rattle.bm_pass.specs.LoadMove.{IsTargetUnit}
-use Rattle.bm_pass.proofs.MoveLemmas.{MadeMoves, MadeMoves-none, MadeMoves-ok, MakesMoves-then, MakesMoves-failed, MakesMoves-all}
-use Rattle.bm_pass.proofs.PassLemmas.{IsTargetUnit-area, source_stays, LoadsMoved-more, LoadsMoved-none, LoadsMoved-all, rows_more, rows_within, rows_of_pass}
+use Rattle.bm_pass.proofs.PassLemmas.{IsTargetUnit-area, source_stays, LoadsMoved-more, LoadsMoved-none, LoadsMoved-all, rows_within, rows_of_pass}
 use Rattle.bm_pass.proofs.whole_pass.run_pass.Goals as goal
 
 pub loop-load-init : goal.loop-load-init
 loop-load-init g c =
-    let now = g.R.Rack.view c.args.rack.now in
-    let formed = g.met.R.Rack.consistent c.args.rack.now in
-    let none : 0 ≡ 0 * (2 * load_stripes c.args.shape.now) = omega arith in record {
+    let now = g.R.Rack.view c.args.rack.now in record {
       only = search rules;
-      moved = subst (λ k. MadeMoves k now now) none
-          (MadeMoves-none g.R.Rack.tells_stands g.R.Rack.tells_contents now formed);
+      moved = MovesRows-all 0 (0 * (2 * load_stripes c.args.shape.now)) (Unit {0}) _ _ (omega arith)
+          (MovesRows-refl _ _ (Unit {0}) _ (g.met.R.Rack.consistent c.args.rack.now));
       keeps = search rules;
       fits = c.requires.fits;
       records = λ told. LoadsMoved-none c.args.shape.now c.args.pass.now c.args.from c.args.to now.contents now.contents;
@@ -34,7 +32,7 @@ returns-in_err-load_step-clause-moved g c =
     let load = c.loop-load.load in
     let rows = 2 * load_stripes s in
     let inside : load < 2 ^ (s.n - s.m) = subst (λ k. load < k) c.loads-load-end.ensures c.loop-load-test.true in
-    MakesMoves-failed (load * rows) rows (2 * stripes s) _ _ _ _ _ (rows_within s load inside) (λ ok. search rules)
+    MovesRows-failed (load * rows) rows (2 * stripes s) _ _ _ _ _ (rows_within s load inside) (λ ok. search rules)
     c.loop-load.invariant.moved c.in_err-load_step.ensures.moved
 
 pub loop-load-preserved : goal.loop-load-preserved
@@ -52,8 +50,7 @@ loop-load-preserved g c =
       only = ChangesOnly-trans (IsAreaUnit s c.args.to) _ _ _ inv.only
           (ChangesOnly-wider (IsTargetUnit s pass c.args.to load) (IsAreaUnit s c.args.to) _ _
           (λ u. IsTargetUnit-area s pass c.args.to load u c.requires.pass) c.load_step.ensures.only);
-      moved = MakesMoves-then (load * rows) rows ((load + 1) * rows) _ _ _ _ (omega (arith, rows_more load rows)) (λ _. rows_more load rows)
-          inv.moved (MadeMoves-ok rows _ _ _ refl c.in_ok-load_step.ensures.moved);
+      moved = MovesRows-next rows load _ _ _ _ refl inv.moved c.in_ok-load_step.ensures.moved;
       keeps = Keeps-trans _ _ _ inv.keeps c.load_step.ensures.keeps;
       fits = c.load_step.ensures.fits;
       records = λ told. LoadsMoved-more s pass c.args.from c.args.to load before.contents now after c.requires.pass inside
@@ -73,5 +70,5 @@ pub returns-clause-moved : goal.returns-clause-moved
 returns-clause-moved g c =
     let s = c.args.shape.now in
     let all : c.loop-load.load ≡ 2 ^ (s.n - s.m) = omega arith in
-    MakesMoves-all (c.loop-load.load * (2 * load_stripes s)) (2 * stripes s) _ _ _
+    MovesRows-all (c.loop-load.load * (2 * load_stripes s)) (2 * stripes s) _ _ _
     (ap (λ k. k * (2 * load_stripes s)) all ∙ rows_of_pass s) c.loop-load.invariant.moved

@@ -1,10 +1,9 @@
 use Rattle.std.proofs.Common.{◌*◌, IsTrue}
 use Rattle.bm_base.specs.Shape.{load_stripes}
 use Rattle.bm_bufs.specs.Bufs.{FitsShape}
-use Rattle.bm_rack.specs.Frames.{Keeps, ChangesOnly}
+use Rattle.bm_rack.specs.Frames.{Keeps, MovesRows, ChangesOnly}
 use Rattle.bm_stripe.specs.Units.{IsAreaUnit}
 use Rattle.bm_pass.specs.LoadMove.{LoadsMoved}
-use Rattle.bm_pass.proofs.MoveLemmas.{MadeMoves}
 use Rattle.bm_pass.proofs.whole_pass.run_pass.Given as goal
 
 abbrev pub invariant-loop-load : goal.invariant-loop-load
@@ -12,7 +11,7 @@ invariant-loop-load g l =
     let view = g.R.Rack.view in
     record {
       only : ChangesOnly (IsAreaUnit l.shape l.to) (view l.fn.rack) (view l.rack);
-      moved : MadeMoves (l.load * (2 * load_stripes l.shape)) (view l.fn.rack) (view l.rack);
+      moved : MovesRows (l.load * (2 * load_stripes l.shape)) (Unit {0}) (view l.fn.rack) (view l.rack);
       keeps : Keeps (view l.fn.rack) (view l.rack);
       fits : FitsShape l.shape l.bufs;
       records : IsTrue g.R.Rack.tells_contents
