@@ -1,4 +1,3 @@
 pub mod ScanLemmas
 pub mod AnswerLemmas
-pub mod MoveLemmas
 pub mod LoadLemmas

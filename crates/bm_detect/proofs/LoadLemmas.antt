@@ -1,8 +1,6 @@
 -- The numbers of a load.
-use Rattle.std.proofs.Common.{◌≡◌, ℕ, ◌+◌, ◌-◌, ◌*◌, ◌%◌, ◌^◌, ◌<◌, ◌≤◌, Result, List, length, drop, sym, ap, subst, ◌∙◌, arith}
+use Rattle.std.proofs.Common.{◌≡◌, ℕ, ◌+◌, ◌-◌, ◌*◌, ◌%◌, ◌^◌, ◌<◌, ◌≤◌, Result, List, sym, ap, subst, ◌∙◌, arith}
 use Rattle.std.specs.Fork.{slice_chunk}
-use Rattle.std.specs.List.{refill}
-use Rattle.std.proofs.lemmas.List.{take-append-le, take_all}
 use Rattle.std.proofs.lemmas.Nat.{one_shl}
 use Rattle.std.proofs.Math.Nat.{mod-eq_of_lt}
 use Rattle.std.proofs.Math.Pow.{pow_mono}
@@ -11,7 +9,7 @@ use Rattle.bm_base.specs.Butterfly.{number_in}
 use Rattle.bm_detect.specs.declared.detect_error.DetectError.{DetectError}
 use Rattle.bm_detect.specs.declared.scan_state.Scan.{Scan}
 use Rattle.bm_detect.specs.Scan.{Knows, Scanned}
-use Rattle.bm_detect.proofs.MoveLemmas.{load_records}
+use Rattle.bm_base.proofs.ShapeLemmas.{load_records}
 
 -- the count of a load's records, as the code makes it
 pub load_count : (s : Shape) → 1 * 2 ^ s.m % 2 ^ 64 ≡ 2 ^ s.m
@@ -56,10 +54,6 @@ load_taken s load n m k ys bytes scan r en em ek below same taken knows =
     λ i few. same i (subst (λ (a : ℕ). i < a) count few) ∙ ap (λ (x : ℕ). ys (x + i)) (sym start) in
     subst (λ (a : ℕ). Scanned a ys (2 ^ s.m * (load + 1)) r) en
     (subst (λ (x : ℕ). Scanned n ys x r) grown (taken numbers before))
-
--- a list written whole
-pub refill_all : (xs ws : List ℕ) → length ws ≡ length xs → refill (length xs) xs ws ≡ ws
-refill_all xs ws same = take-append-le (length xs) ws (drop (length ws) xs) (omega arith) ∙ take_all (length xs) ws (omega arith)
 
 -- no load was taken yet
 pub start_knows : (n m size : ℕ) (ys : ℕ → ℕ) (scan : Scan) → n ≡ m → Knows n ys 0 scan → Knows m ys (size * 0) scan

@@ -15,7 +15,7 @@ abbrev pub AreCandidates : ℕ → (ℕ → ℕ) → ℕ → Type 0
 AreCandidates n ys count = (x : ℕ) → x < count → ys x ≡ candidate n ys x
 
 -- x is the least address whose number is none, and y its number
-pub record IsFirstOutside (n : ℕ) (ys : ℕ → ℕ) (x y : ℕ) : Type 0 where
+pub record IsFirstNoAddress (n : ℕ) (ys : ℕ → ℕ) (x y : ℕ) : Type 0 where
   pub inside : x < 2 ^ n
   pub number : y ≡ ys x
   pub large : 2 ^ n ≤ y
@@ -29,7 +29,7 @@ pub record IsFirstDifference (n : ℕ) (ys : ℕ → ℕ) (x y want : ℕ) : Typ
   pub before : AreCandidates n ys x
 
 -- x is the least vector but 0 that the candidate's matrix sends to 0
-pub record IsLeastSent (n : ℕ) (ys : ℕ → ℕ) (x : ℕ) : Type 0 where
+pub record IsLeastKernelOfCandidate (n : ℕ) (ys : ℕ → ℕ) (x : ℕ) : Type 0 where
   pub some : x ≢ 0
   pub inside : x < 2 ^ n
   pub sent : candidate_image n ys x ≡ 0
@@ -39,6 +39,6 @@ pub record IsLeastSent (n : ℕ) (ys : ℕ → ℕ) (x : ℕ) : Type 0 where
 abbrev pub DetectAnswer : ℕ → (ℕ → ℕ) → Result Affine DetectError → Type 0
 DetectAnswer n ys (Ok f) = IsAffineBy n ys f × IsNonsingular f.a
 DetectAnswer n ys (Err refusal.Failed) = Unit {0}
-DetectAnswer n ys (Err (refusal.OutOfRange x y)) = IsFirstOutside n ys x y
+DetectAnswer n ys (Err (refusal.OutOfRange x y)) = IsFirstNoAddress n ys x y
 DetectAnswer n ys (Err (refusal.NotAffine x y want)) = AreAddresses n ys (2 ^ n) × (x < 2 ^ n) × IsFirstDifference n ys x y want
-DetectAnswer n ys (Err (refusal.Singular x)) = AreAddresses n ys (2 ^ n) × AreCandidates n ys (2 ^ n) × IsLeastSent n ys x
+DetectAnswer n ys (Err (refusal.Singular x)) = AreAddresses n ys (2 ^ n) × AreCandidates n ys (2 ^ n) × IsLeastKernelOfCandidate n ys x

@@ -1,4 +1,3 @@
 pub mod Candidate
 pub mod Answer
 pub mod Scan
-pub mod Moves

@@ -6,7 +6,7 @@ use Rattle.bm_detect.specs.declared.scan_state.Scan.{Scan}
 use Rattle.bm_detect.specs.declared.detect_error.DetectError.{DetectError}
 use Rattle.bm_detect.specs.declared.detect_error.DetectError.TheVariants as refusal
 use Rattle.bm_detect.specs.Candidate.{candidate_column}
-use Rattle.bm_detect.specs.Answer.{AreAddresses, AreCandidates, IsFirstOutside, IsFirstDifference}
+use Rattle.bm_detect.specs.Answer.{AreAddresses, AreCandidates, IsFirstNoAddress, IsFirstDifference}
 
 -- the first of the first `seen` numbers that is not the candidate's value, or nothing where there is none
 abbrev pub IsFirst : ℕ → (ℕ → ℕ) → ℕ → Option Difference → Type 0
@@ -31,6 +31,6 @@ pub record Knows (n : ℕ) (ys : ℕ → ℕ) (seen : ℕ) (scan : Scan) : Type 
 abbrev pub Scanned : ℕ → (ℕ → ℕ) → ℕ → Result Scan DetectError → Type 0
 Scanned n ys seen (Ok scan) = Knows n ys seen scan
 Scanned n ys seen (Err refusal.Failed) = Unit {0}
-Scanned n ys seen (Err (refusal.OutOfRange x y)) = IsFirstOutside n ys x y
+Scanned n ys seen (Err (refusal.OutOfRange x y)) = IsFirstNoAddress n ys x y
 Scanned n ys seen (Err (refusal.NotAffine x y want)) = ⊥
 Scanned n ys seen (Err (refusal.Singular x)) = ⊥

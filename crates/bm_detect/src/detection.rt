@@ -1,15 +1,15 @@
 //! The detection of an affine permutation.
+
 ghost use Rattle.std.specs.Prelude.{◌≡◌, ◌≢◌, ℕ, ◌^◌, ◌≤◌, IsTrue, IsOk, Some};
 ghost use Rattle.bm_base.specs.Shape.{dims_of, stripes};
 ghost use Rattle.bm_base.specs.Count.{Rose};
 ghost use Rattle.bm_bufs.specs.Bufs.{FitsShape};
 ghost use Rattle.bm_gf2.specs.declared.affine.Affine.{Affine};
 ghost use Rattle.bm_gf2.specs.Matrix.{IsNonsingular};
-ghost use Rattle.bm_rack.specs.Frames.{Keeps, HasCause, SameState};
+ghost use Rattle.bm_rack.specs.Frames.{Keeps, MovesRows, HasCause, SameState};
 ghost use Rattle.bm_detect.specs.Candidate.{input_number, IsAffineBy};
 ghost use Rattle.bm_detect.specs.Answer.{DetectAnswer};
 ghost use Rattle.bm_detect.specs.Scan.{IsScan, Knows};
-ghost use Rattle.bm_detect.specs.Moves.{MovesRows};
 
 use crate::detect_error::DetectError;
 use crate::scan_loads::scan_input;
@@ -20,7 +20,7 @@ use bm_gf2::Affine;
 use bm_rack::Rack;
 use bm_rank::kernel_least;
 
-/// What a scan of all numbers says.
+// What a scan of all numbers says.
 fn judge(scan: Scan) -> Result<Affine, DetectError>
     ensures read { result ≢ Err DetectError.Failed }
     ensures answer { (n : ℕ) (ys : ℕ → ℕ) → IsScan n scan → Knows n ys (2 ^ n) scan

@@ -1,4 +1,5 @@
 //! Detection: whether the numbers of the input are an affine map of their addresses, and which.
+
 #![tactic(auto)]
 
 mod detect_error;

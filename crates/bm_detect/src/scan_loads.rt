@@ -1,11 +1,11 @@
 //! The loads of a scan.
+
 ghost use Rattle.std.specs.Prelude.{◌≡◌, ◌≢◌, ℕ, ◌+◌, ◌-◌, ◌*◌, ◌^◌, ◌<◌, ◌≤◌, IsTrue, IsOk, IfOk, Some};
 ghost use Rattle.bm_base.specs.Shape.{dims_of, stripes, load_stripes};
 ghost use Rattle.bm_bufs.specs.Bufs.{FitsShape};
-ghost use Rattle.bm_rack.specs.Frames.{Keeps, HasCause, SameState};
+ghost use Rattle.bm_rack.specs.Frames.{Keeps, MovesRows, HasCause, SameState};
 ghost use Rattle.bm_detect.specs.Candidate.{input_number};
 ghost use Rattle.bm_detect.specs.Scan.{IsScan, Knows, Scanned};
-ghost use Rattle.bm_detect.specs.Moves.{MovesRows};
 
 use crate::detect_error::DetectError;
 use crate::scan_state::Scan;
@@ -15,7 +15,7 @@ use bm_bufs::Bufs;
 use bm_rack::Rack;
 use bm_stripe::read_load;
 
-/// Reads a load of the input and takes its numbers, in M/BD row calls.
+// Reads a load of the input and takes its numbers, in M/BD row calls.
 fn scan_load<R: Rack>(
     rack: &mut R,
     shape: &Shape,

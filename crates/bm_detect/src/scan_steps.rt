@@ -1,4 +1,5 @@
 //! One number of a scan, and those of a load.
+
 ghost use Rattle.std.specs.Prelude.{◌≡◌, ◌≢◌, ℕ, ◌+◌, ◌*◌, ◌^◌, ◌<◌, ◌≤◌, IfOk, length, bit_xor};
 ghost use Rattle.std.specs.Fork.{slice_chunk};
 ghost use Rattle.bm_base.specs.Butterfly.{number_in};
@@ -13,7 +14,7 @@ use byteorder::{ByteOrder, LittleEndian};
 // The bytes of a number.
 const NUMBER_BYTES: usize = 8;
 
-/// The number in record i of records of 8 bytes.
+// The number in record i of records of 8 bytes.
 fn number_at(bytes: &[u8], i: usize) -> u64
     requires { (i + 1) * 8 ≤ length bytes.now }
     ensures { result ≡ number_in (slice_chunk bytes.now 8 i) }
@@ -40,7 +41,7 @@ pub fn start_scan(n: u8) -> Scan
     }
 }
 
-/// The matrix with another column j.
+// The matrix with another column j.
 fn with_column(a: Matrix, j: u8, v: u64) -> Matrix
     requires column { j < a.n }
     requires below { v < 2 ^ a.n }
@@ -53,7 +54,7 @@ fn with_column(a: Matrix, j: u8, v: u64) -> Matrix
     Matrix { n: a.n, cols }
 }
 
-/// The scan after the number y of address 0.
+// The scan after the number y of address 0.
 fn take_constant(scan: Scan, n: u8, y: u64) -> Scan
     requires scan { IsScan n scan }
     requires below { y < 2 ^ n }
@@ -70,7 +71,7 @@ fn take_constant(scan: Scan, n: u8, y: u64) -> Scan
     }
 }
 
-/// The scan after the number y of the next unit address.
+// The scan after the number y of the next unit address.
 fn take_unit(scan: Scan, n: u8, y: u64) -> Scan
     requires scan { IsScan n scan }
     requires more { scan.bits < n }
@@ -89,7 +90,7 @@ fn take_unit(scan: Scan, n: u8, y: u64) -> Scan
     }
 }
 
-/// The scan after the number y of an address x whose columns are known.
+// The scan after the number y of an address x whose columns are known.
 fn take_other(scan: Scan, n: u8, x: u64, y: u64) -> Scan
     requires scan { IsScan n scan }
     requires address { x < 2 ^ n }

@@ -1,5 +1,5 @@
 -- A text means one job file alone.
-use Rattle.std.proofs.Common.{◌≡◌, ℕ, ◌*◌, ◌+◌, ◌-◌, ◌/◌, ◌%◌, ◌^◌, ◌<◌, ◌≤◌, List, length, slice_index, bit_xor, Some, Ok}
+use Rattle.std.proofs.Common.{◌≡◌, ℕ, ◌*◌, ◌+◌, ◌-◌, ◌/◌, ◌%◌, ◌^◌, ◌<◌, ◌≤◌, List, length, bit_xor, Some, Ok}
 use Rattle.std.proofs.Common.{sym, ap, subst, ◌∙◌, arith, refl, inl, inr, ⊎_elim}
 use Rattle.std.proofs.lemmas.List.{ext_get_or}
 use Rattle.std.proofs.lemmas.Bool.{cases_lt}
@@ -8,15 +8,13 @@ use Rattle.std.proofs.Math.Pow.{pow-lt}
 use Rattle.std.proofs.lemmas.Nat.Bits.{same_from_bits_below}
 use Rattle.std.specs.Int.Bits.{xor_zero_r}
 use Rattle.std.proofs.Math.Nat.{mod-add-div', mod-lt}
-use denote.Struct.Props.{props}
-use Rattle.std.proofs.Math.Path.{subst₂}
 use Rattle.bm_base.specs.declared.shape.Shape.{Shape}
-use Rattle.bm_base.specs.ShapeRules.{IsShape}
-use Rattle.bm_gf2.specs.declared.matrix.Matrix.{Matrix}
 use Rattle.bm_gf2.specs.declared.affine.Affine.{Affine}
 use Rattle.bm_gf2.specs.Matrix.{column, image}
 use Rattle.bm_gf2.specs.Affine.{affine_image}
 use Rattle.bm_gf2.proofs.VectorLemmas.{xor_cancel, xor_cancel_right, xor_sum-zero, xor_sum-pow}
+use Rattle.bm_gf2.proofs.MapLemmas.{matrix_equal, affine_equal}
+use Rattle.bm_base.proofs.EqualLemmas.{shape_equal}
 use Rattle.bm_rank.proofs.RowCutLemmas.{image_below}
 use Rattle.bm_forms.specs.declared.job.Job.{Job}
 use Rattle.bm_forms.specs.declared.job.Job.TheVariants as job
@@ -31,50 +29,6 @@ use Rattle.bm_jobfile.specs.declared.reading.JobText.{JobText as Said}
 use Rattle.bm_jobfile.specs.JobText.{text_of}
 use Rattle.bm_jobfile.specs.MapJob.{IsNamedMap, NamedIsFaultless, MapIsFaultless, IsPermuteOf, IsJobOf}
 use Rattle.bm_jobfile.specs.JobFile.{every_of, Says, IsFileOf, IsJobFile}
-
--- ---- values with equal numbers are equal
-
--- the rules of a shape hold in one way
-IsShape-prop : (n b d m width : ℕ) → IsProp (IsShape n b d m width)
-IsShape-prop n b d m width = hlevel props
-
-shape_equal : (s t : Shape) → s.n ≡ t.n → s.b ≡ t.b → s.d ≡ t.d → s.m ≡ t.m → s.width ≡ t.width → s ≡ t
-shape_equal s t en eb ed em ew =
-    subst₂ (λ (n b : ℕ). (keeps : IsShape n b t.d t.m t.width) → s ≡ record { n = n; b = b; d = t.d; m = t.m; width = t.width; keeps = keeps })
-    en eb
-    (subst₂ (λ (d m : ℕ). (keeps : IsShape s.n s.b d m t.width) → s ≡ record { n = s.n; b = s.b; d = d; m = m; width = t.width; keeps = keeps })
-    ed em
-    (subst (λ (w : ℕ). (keeps : IsShape s.n s.b s.d s.m w) → s ≡ record { n = s.n; b = s.b; d = s.d; m = s.m; width = w; keeps = keeps })
-    ew
-    (λ keeps i. record { n = s.n; b = s.b; d = s.d; m = s.m; width = s.width; keeps = IsShape-prop s.n s.b s.d s.m s.width s.keeps keeps i })))
-    t.keeps
-
-matrix_equal : (a b : Matrix) → a.n ≡ b.n → a.cols ≡ b.cols → a ≡ b
-matrix_equal a b n cols =
-    let some_prop : (m : ℕ) → IsProp (1 ≤ m) = hlevel props in
-    let few_prop : (m : ℕ) → IsProp (m ≤ 52) = hlevel props in
-    let below_prop : (m : ℕ) (ws : List ℕ) → IsProp ((j : ℕ) → j < m → slice_index ws j < 2 ^ m) = hlevel props in
-    let rest_prop : (m : ℕ) (ws : List ℕ) → IsProp ((j : ℕ) → m ≤ j → slice_index ws j ≡ 0) = hlevel props in
-    subst₂ (λ (m : ℕ) (ws : List ℕ). (some : 1 ≤ m) (few : m ≤ 52) (below : (j : ℕ) → j < m → slice_index ws j < 2 ^ m)
-    (rest : (j : ℕ) → m ≤ j → slice_index ws j ≡ 0) → a ≡ record { n = m; cols = ws; some = some; few = few; below = below; rest = rest })
-    n cols
-    (λ some few below rest i. record {
-      n = a.n;
-      cols = a.cols;
-      some = some_prop a.n a.some some i;
-      few = few_prop a.n a.few few i;
-      below = below_prop a.n a.cols a.below below i;
-      rest = rest_prop a.n a.cols a.rest rest i;
-    })
-    b.some b.few b.below b.rest
-
-affine_equal : (f g : Affine) → f.a ≡ g.a → f.c ≡ g.c → f ≡ g
-affine_equal f g a c =
-    let below_prop : (m : Matrix) (k : ℕ) → IsProp (k < 2 ^ m.n) = hlevel props in
-    subst₂ (λ (m : Matrix) (k : ℕ). (below : k < 2 ^ m.n) → f ≡ record { a = m; c = k; below = below })
-    a c
-    (λ below i. record { a = f.a; c = f.c; below = below_prop f.a f.c f.below below i })
-    g.below
 
 -- ---- the images of a map decide it
 

@@ -27,9 +27,9 @@ number_of fits (integer (pos n)) = if fits n then Some n else None
 number_of fits _ = None
 
 -- such a number has to stand
-abbrev pub number_in : FieldName → (ℕ → Bool) → Option Data → Result ℕ FieldName
-number_in name fits (Some (integer (pos n))) = if fits n then Ok n else Err name
-number_in name fits _ = Err name
+abbrev pub needed_number : FieldName → (ℕ → Bool) → Option Data → Result ℕ FieldName
+needed_number name fits (Some (integer (pos n))) = if fits n then Ok n else Err name
+needed_number name fits _ = Err name
 
 -- an integer of at least 0, or the default where nothing stands
 abbrev pub count_or : FieldName → ℕ → Option Data → Result ℕ FieldName

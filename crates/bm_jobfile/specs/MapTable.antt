@@ -11,7 +11,7 @@ use Rattle.bm_jobfile.specs.declared.map_table.NamedMap.{NamedMap}
 use Rattle.bm_jobfile.specs.declared.map_table.NamedMap.TheVariants as named
 use Rattle.bm_jobfile.specs.declared.map_table.MapText.{MapText}
 use Rattle.bm_jobfile.specs.declared.map_table.MapText.TheVariants.{Permute, Walsh}
-use Rattle.bm_jobfile.specs.Fields.{◌>>=◌, is_byte, is_any, number_in, list_in, count_or}
+use Rattle.bm_jobfile.specs.Fields.{◌>>=◌, is_byte, is_any, needed_number, list_in, count_or}
 
 -- the source bits, and the rows
 abbrev pub bits_in : Members → Result (List ℕ) FieldName
@@ -25,10 +25,10 @@ abbrev pub named_in : Kind → Members → Result (Option NamedMap) FieldName
 named_in kind.Identity map = Ok (Some named.Identity)
 named_in kind.Reversal map = Ok (Some named.Reversal)
 named_in kind.BitReversal map = Ok (Some named.BitReversal)
-named_in kind.Transpose map = number_in field.P is_byte (get_member (codes "p") map) >>= λ p. Ok (Some (named.Transpose p))
+named_in kind.Transpose map = needed_number field.P is_byte (get_member (codes "p") map) >>= λ p. Ok (Some (named.Transpose p))
 named_in kind.Gray map = Ok (Some named.Gray)
 named_in kind.InverseGray map = Ok (Some named.InverseGray)
-named_in kind.Rotation map = number_in field.By is_byte (get_member (codes "by") map) >>= λ by. Ok (Some (named.Rotation by))
+named_in kind.Rotation map = needed_number field.By is_byte (get_member (codes "by") map) >>= λ by. Ok (Some (named.Rotation by))
 named_in kind.Bits map = bits_in map >>= λ list. Ok (Some (named.Bits list))
 named_in kind.Rows map = rows_in map >>= λ rows. Ok (Some (named.Rows rows))
 named_in kind.Walsh map = Ok None

@@ -4,7 +4,7 @@ ghost use Rattle.std.specs.Prelude.{◌≡◌, Result, Option, option_map};
 ghost use Rattle.bm_base.specs.declared.field_name.FieldName.{FieldName};
 ghost use Rattle.toml.specs.Data.{get_member, Members};
 ghost use Rattle.toml.specs.View.{view, array_view, table_view};
-ghost use Rattle.bm_jobfile.specs.Fields.{is_byte, is_width, is_any, number_of, number_in};
+ghost use Rattle.bm_jobfile.specs.Fields.{is_byte, is_width, is_any, number_of, needed_number};
 ghost use Rattle.bm_jobfile.specs.Fields.{count_or, items_of, items_in, table_in, optional_table, seen_by};
 
 use bm_base::FieldName;
@@ -69,7 +69,7 @@ pub fn count_of(value: &Value) -> Option<u64>
 
 /// A number of one byte.
 pub fn byte_field(table: &Table, key: &str, name: FieldName) -> Result<u8, FieldName>
-    ensures { result ≡ number_in name is_byte (get_member key.now (table_view table.now)) }
+    ensures { result ≡ needed_number name is_byte (get_member key.now (table_view table.now)) }
 {
     match value_at(table, key) {
         Some(Value::Integer(number)) => u8::try_from(*number).map_err(|_| name),
@@ -79,7 +79,7 @@ pub fn byte_field(table: &Table, key: &str, name: FieldName) -> Result<u8, Field
 
 /// A number of two bytes.
 pub fn width_field(table: &Table, key: &str, name: FieldName) -> Result<u16, FieldName>
-    ensures { result ≡ number_in name is_width (get_member key.now (table_view table.now)) }
+    ensures { result ≡ needed_number name is_width (get_member key.now (table_view table.now)) }
 {
     match value_at(table, key) {
         Some(Value::Integer(number)) => u16::try_from(*number).map_err(|_| name),

@@ -58,18 +58,21 @@ fn is_known(name: TableName, key: &str) -> bool
     }
 }
 
+// Tests that the key is one of a job text itself.
 fn is_document_key(key: &str) -> bool
     ensures { result ≡ is_one_of (known_keys TableName.Document) key.now }
 {
     key == "shape" || key == "map" || key == "drill" || key == "run"
 }
 
+// Tests that the key is one of a shape.
 fn is_shape_key(key: &str) -> bool
     ensures { result ≡ is_one_of (known_keys TableName.Shape) key.now }
 {
     key == "n" || key == "b" || key == "d" || key == "m" || key == "width"
 }
 
+// Tests that the key is one of a drill.
 fn is_drill_key(key: &str) -> bool
     ensures { result ≡ is_one_of (known_keys TableName.Drill) key.now }
 {

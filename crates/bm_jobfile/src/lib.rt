@@ -1,4 +1,5 @@
 //! The job text: a shape, a job, and what a drill and a run are told, read from a TOML document.
+
 #![tactic(auto)]
 
 mod drill_table;

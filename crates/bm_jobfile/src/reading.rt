@@ -19,12 +19,9 @@ use crate::map_job::job_of;
 use crate::map_table::{MapText, map_text};
 use crate::run_table::checkpoint_in;
 use crate::shape_table::{ShapeNumbers, shape_numbers};
-use bm_base::{FieldName, Shape, Stops};
+use bm_base::{FieldName, MOST_TEXT_BYTES, Shape, Stops};
 use std::alloc::Global;
 use toml::Table;
-
-// The most bytes of a job text.
-const MOST_TEXT_BYTES: usize = 65536;
 
 /// What the fields of a job text say.
 #[derive(Drop)]

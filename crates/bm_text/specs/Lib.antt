@@ -3,6 +3,5 @@ pub mod ReportText
 pub mod StatusText
 pub mod DrillText
 pub mod JobText
-pub mod MldTest
 pub mod StepCost
 pub mod PlanText

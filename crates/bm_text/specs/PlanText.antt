@@ -4,9 +4,11 @@ use Rattle.bm_base.specs.declared.shape.Shape.{Shape}
 use Rattle.bm_base.specs.Shape.{stripes}
 use Rattle.bm_forms.specs.declared.job.Job.{Job}
 use Rattle.bm_forms.specs.declared.job.Job.TheVariants.{Permute, Walsh}
-use Rattle.bm_forms.specs.PassLimit.{rounds_of, last_bits, limit_of}
+use Rattle.bm_forms.specs.PassCount.{passes_of}
+use Rattle.bm_forms.specs.PassLimit.{limit_of}
+use Rattle.bm_forms.specs.Rounds.{rounds_of, last_bits}
 use Rattle.bm_text.specs.declared.step_cost.StepCost.{StepCost}
-use Rattle.bm_text.specs.StepCost.{passes_of, cost_of, rotation_cost}
+use Rattle.bm_text.specs.StepCost.{cost_of, rotation_cost}
 use Rattle.bm_text.specs.StatusText.{kind_line}
 
 -- the line of the shape
@@ -33,19 +35,14 @@ step_lines s (Permute f) = step_line 1 0 (cost_of s f.a.cols)
 step_lines s Walsh =
     round_lines s (rounds_of s - 1) ++ step_line (rounds_of s) (last_bits s) (rotation_cost s (last_bits s))
 
--- the passes of all steps
-abbrev pub passes_in_all : Shape → Job → ℕ
-passes_in_all s (Permute f) = passes_of s f.a.cols
-passes_in_all s Walsh = (rounds_of s - 1) * (rotation_cost s s.m).passes + (rotation_cost s (last_bits s)).passes
-
 -- the parallel transfers of this many passes, 2N/BD each
 abbrev pub moves_of : Shape → ℕ → ℕ
 moves_of s passes = passes * (2 * stripes s)
 
--- the passes, the parallel transfers, and those of the pass limit, a line each
+-- the passes of the plan, their parallel transfers, and those of the pass limit, a line each
 abbrev pub total_lines : Shape → Job → List ℕ
 total_lines s job =
-    codes "passes " ++ decimal (passes_in_all s job) ++ codes "\nmoves " ++ decimal (moves_of s (passes_in_all s job))
+    codes "passes " ++ decimal (passes_of s job) ++ codes "\nmoves " ++ decimal (moves_of s (passes_of s job))
     ++ codes "\nbound " ++ decimal (moves_of s (limit_of s job)) ++ codes "\n"
 
 -- the shape, the job's kind, the steps and what they take together

@@ -1,4 +1,5 @@
 //! The report of a drill.
+
 ghost use Rattle.std.specs.Prelude.{◌≡◌, ◌≤◌, ◌++◌, IsTrue, IsOk, IsErr};
 ghost use Rattle.hex.specs.Hex.{encode_lower};
 ghost use Rattle.bm_base.specs.Count.{Rose};

@@ -1,4 +1,5 @@
 //! The job text of a map that was found.
+
 ghost use Rattle.std.specs.Prelude.{◌≡◌, ◌+◌, ◌*◌, ◌≤◌, ◌++◌, IsTrue, IsOk, IsErr};
 ghost use Rattle.arrayvec.specs.ArrayString.{array_string_len};
 ghost use Rattle.bm_base.specs.Count.{Rose};

@@ -1,4 +1,5 @@
 //! The texts that the commands print.
+
 #![tactic(auto)]
 
 mod drill_text;

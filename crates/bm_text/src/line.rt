@@ -1,4 +1,5 @@
 //! The line that ends a command.
+
 ghost use Rattle.std.specs.Prelude.{◌≡◌, ◌≤◌, ◌++◌, IsTrue, IsOk, IsErr};
 ghost use Rattle.bm_base.specs.Count.{Rose};
 ghost use Rattle.bm_rack.specs.Sink.{AppendsFront};

@@ -1,19 +1,20 @@
 //! The text of a plan.
+
 ghost use Rattle.std.specs.Prelude.{◌≡◌, ◌+◌, ◌-◌, ◌*◌, ◌≤◌, ◌++◌, IsTrue, IsOk, IsErr};
 ghost use Rattle.arrayvec.specs.ArrayString.{array_string_len};
 ghost use Rattle.bm_base.specs.Count.{Rose};
 ghost use Rattle.bm_rack.specs.Sink.{AppendsFront};
 ghost use Rattle.bm_forms.specs.Job.{HasBits};
-ghost use Rattle.bm_forms.specs.PassLimit.{rounds_of, last_bits};
+ghost use Rattle.bm_forms.specs.Rounds.{rounds_of};
 ghost use Rattle.bm_text.specs.PlanText.{shape_line, step_line, round_lines, step_lines};
-ghost use Rattle.bm_text.specs.PlanText.{passes_in_all, moves_of, total_lines, plan_text};
+ghost use Rattle.bm_text.specs.PlanText.{moves_of, total_lines, plan_text};
 
 use crate::number::push_number;
 use crate::status_text::kind_line;
 use crate::step_cost::{StepCost, cost_of, rotation_cost};
 use arrayvec::ArrayString;
 use bm_base::{Failed, Shape};
-use bm_forms::{Job, pass_limit};
+use bm_forms::{Job, last_bits, pass_count, pass_limit, round_count};
 use bm_rack::{Sink, write_all_of};
 
 // Room for the lines of 52 steps, and for all lines of a plan.
@@ -25,9 +26,9 @@ const PLAN_ROOM: usize = 4096;
 /// takes. It takes no memory.
 ///
 /// A step is a permutation, or a round of the transform, with butterflies on its bits before the
-/// rotation by them. The passes are one where the map is MLD, else the rank of rows m to n-1 of
-/// columns 0 to m-1, over lg(M/B) and rounded up, and one. The bound on the transfers is that of
-/// the pass limit (after the upper bound of Cormen, Sundquist and Wisniewski).
+/// rotation by them. The passes are those that the job's plan has, as the planners' clauses say.
+/// The bound on the transfers is that of the pass limit (after the upper bound of Cormen, Sundquist
+/// and Wisniewski).
 ///
 /// Where it fails, a front of the text was written.
 pub fn write_plan<K: Sink>(sink: &mut K, shape: &Shape, job: &Job) -> Result<(), Failed>
@@ -100,27 +101,14 @@ fn step_lines(shape: &Shape, job: &Job) -> ArrayString<STEPS_ROOM>
         Job::Walsh => {
             let mut text = round_lines(shape);
             let last = last_bits(shape);
-            text.push_str(step_line(rounds(shape), last, &rotation_cost(shape, last)).as_str());
+            text.push_str(step_line(
+                round_count(shape),
+                last,
+                &rotation_cost(shape, last),
+            ).as_str());
             text
         }
     }
-}
-
-// How many rounds the transform has.
-fn rounds(shape: &Shape) -> u8
-    ensures rounds { result ≡ rounds_of shape.now }
-    ensures some { 1 ≤ result }
-    ensures few { result ≤ 52 }
-{
-    shape.n().div_ceil(shape.m())
-}
-
-// How many bits its last round does.
-fn last_bits(shape: &Shape) -> u8
-    ensures bits { result ≡ last_bits shape.now }
-    ensures few { result ≤ shape.now.n }
-{
-    shape.n() - (rounds(shape) - 1) * shape.m()
 }
 
 // The lines of its rounds but the last.
@@ -130,26 +118,10 @@ fn round_lines(shape: &Shape) -> ArrayString<STEPS_ROOM>
 {
     let cost = rotation_cost(shape, shape.m());
     let mut text = ArrayString::new();
-    for done in 0..rounds(shape) - 1 {
+    for done in 0..round_count(shape) - 1 {
         text.push_str(step_line(done + 1, shape.m(), &cost).as_str());
     }
     text
-}
-
-// The passes of all steps.
-fn passes_in_all(shape: &Shape, job: &Job) -> u16
-    requires { HasBits shape.now.n job.now }
-    ensures passes { result ≡ passes_in_all shape.now job.now }
-    ensures few { result ≤ 256 }
-{
-    match job {
-        Job::Permute(map) => u16::from(cost_of(shape, &map.a).passes),
-        Job::Walsh => {
-            let full = rotation_cost(shape, shape.m()).passes;
-            let last = rotation_cost(shape, last_bits(shape)).passes;
-            u16::from(rounds(shape) - 1) * u16::from(full) + u16::from(last)
-        }
-    }
 }
 
 // The parallel transfers of this many passes.
@@ -165,7 +137,7 @@ fn total_lines(shape: &Shape, job: &Job) -> ArrayString<128>
     requires { HasBits shape.now.n job.now }
     ensures { result.bytes ≡ total_lines shape.now job.now }
 {
-    let passes = passes_in_all(shape, job);
+    let passes = pass_count(shape, job);
     let mut text = ArrayString::new();
     push_number(&mut text, "passes ", passes);
     push_number(&mut text, "\nmoves ", moves_of(shape, passes));

@@ -1,4 +1,5 @@
 //! How far a job has come.
+
 ghost use Rattle.std.specs.Prelude.{◌≡◌, ◌≤◌, ◌++◌, IsTrue, IsOk, IsErr, length};
 ghost use Rattle.bm_base.specs.Count.{Rose};
 ghost use Rattle.bm_rack.specs.Sink.{AppendsFront};

@@ -6,7 +6,9 @@ use Rattle.bm_base.specs.Contents.{Contents}
 use Rattle.bm_detect.proofs.LoadLemmas.{start_knows}
 use Rattle.bm_detect.specs.Candidate.{input_number}
 use Rattle.bm_detect.specs.Scan.{IsScan, Knows}
-use Rattle.bm_detect.proofs.MoveLemmas.{loads_rows, loads_records, MovesRows-refl, MovesRows-next, MovesRows-failed, MovesRows-all, error_not_ok}
+use Rattle.bm_base.proofs.CaseLemmas.{error_not_ok}
+use Rattle.bm_base.proofs.ShapeLemmas.{loads_rows, loads_records}
+use Rattle.bm_rack.proofs.CallLemmas.{MovesRows-refl, MovesRows-next, MovesRows-failed, MovesRows-all}
 use Rattle.bm_detect.proofs.scan_loads.scan_input.Goals as goal
 
 pub loop-load-init : goal.loop-load-init

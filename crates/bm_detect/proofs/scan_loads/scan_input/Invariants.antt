@@ -4,7 +4,7 @@ use Rattle.bm_bufs.specs.Bufs.{FitsShape}
 use Rattle.bm_rack.specs.Frames.{SameState, Keeps}
 use Rattle.bm_detect.specs.Candidate.{input_number}
 use Rattle.bm_detect.specs.Scan.{IsScan, Knows}
-use Rattle.bm_detect.specs.Moves.{MovesRows}
+use Rattle.bm_rack.specs.Frames.{MovesRows}
 use Rattle.bm_detect.proofs.scan_loads.scan_input.Given as goal
 
 abbrev pub invariant-loop-load : goal.invariant-loop-load

@@ -2,8 +2,8 @@ use Rattle.std.proofs.Common.{◌≡◌, ℕ, List, length, sym, ap, ◌∙◌}
 use Rattle.std.specs.Fork.{slice_chunk}
 use Rattle.bm_base.specs.Butterfly.{number_in}
 use Rattle.bm_detect.specs.Candidate.{input_number}
-use Rattle.bm_detect.proofs.LoadLemmas.{load_addresses, load_taken, refill_all}
-use Rattle.bm_detect.proofs.MoveLemmas.{ok_of_no_error}
+use Rattle.bm_detect.proofs.LoadLemmas.{load_addresses, load_taken}
+use Rattle.bm_base.proofs.CaseLemmas.{ok_of_no_error, refill_all}
 use Rattle.bm_detect.proofs.scan_loads.scan_load.Goals as goal
 
 pub take_load-requires-clause-addresses : goal.take_load-requires-clause-addresses

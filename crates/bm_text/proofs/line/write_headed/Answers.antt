@@ -1,6 +1,6 @@
 use Rattle.std.proofs.Common.{◌++◌, codes, List, [], ℕ, refl, sym, ◌∙◌, ap, append_assoc, rules}
 use Rattle.std.proofs.lemmas.List.{append-nil}
-use Rattle.bm_text.proofs.FrontLemmas.{AppendsFront-part}
+use Rattle.bm_rack.proofs.SinkLemmas.{AppendsFront-part}
 use Rattle.bm_text.proofs.line.write_headed.Goals as goal
 
 pub returns-in_err-write_all_of-2-clause-front : goal.returns-in_err-write_all_of-2-clause-front

@@ -13,7 +13,7 @@ loop-done-preserved c =
     let s = c.args.shape.now in
     let done = c.loop-done.done in
     let before = round_lines s done in
-    let cost = c.rotation_cost-cost.ensures.cost ∙ ap (rotation_cost s) c.m.ensures in
+    let cost = c.rotation_cost-cost.ensures ∙ ap (rotation_cost s) c.m.ensures in
     let line = c.as_str.ensures.value ∙ c.step_line.ensures.line
     ∙ ap (λ (bits : ℕ). step_line (done + 1) bits c.rotation_cost-cost.result) c.m-in-loop-done.ensures
     ∙ ap (step_line (done + 1) s.m) cost in
