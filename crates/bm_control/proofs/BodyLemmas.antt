@@ -10,7 +10,8 @@ use Rattle.bm_base.specs.declared.shape.Shape.{Shape}
 use Rattle.bm_gf2.specs.declared.affine.Affine.{Affine}
 use Rattle.bm_gf2.specs.Matrix.{column}
 use Rattle.bm_control.specs.Bodies.{u16_bytes, u64_bytes, u16_in, u64_in, padded, body_head, column_bytes, map_bytes, map_page, load_page}
-use Rattle.bm_control.specs.Bodies.{part_page, loads_of, IsPartBody}
+use Rattle.bm_base.specs.Shape.{loads_of}
+use Rattle.bm_control.specs.Bodies.{part_page, IsPartBody}
 use Rattle.bm_control.proofs.PageFrontLemmas.{length-padded}
 
 -- the number that stands behind a front
@@ -151,6 +152,14 @@ first_of text map page version first second number last long is =
     let a : length (u16_bytes version) ≡ 2 = length-u16_bytes version in
     byte_behind first 10 (text ++ u16_bytes version) (second ∷ (u16_bytes number ++ parts.0)) page
     (simp length-append (omega arith)) (is ∙ parts.1 ∙ sym (append_assoc text _ _))
+
+pub second_of : (text map page : List ℕ) (version first second number last : ℕ) → length text ≡ 8
+    → page ≡ map_page (body_head text version first second number) map last → slice_index page 11 ≡ second
+second_of text map page version first second number last long is =
+    let parts = head_parts text map version first second number last in
+    let a : length (u16_bytes version) ≡ 2 = length-u16_bytes version in
+    byte_behind second 11 (text ++ (u16_bytes version ++ first ∷ [])) (u16_bytes number ++ parts.0) page
+    (simp length-append (omega arith)) (is ∙ parts.1 ∙ simp append_assoc)
 
 pub number_of_head : (text map page : List ℕ) (version first second number last : ℕ) → length text ≡ 8 → number < 2 ^ 16
     → page ≡ map_page (body_head text version first second number) map last → u16_in (drop 12 page) ≡ number

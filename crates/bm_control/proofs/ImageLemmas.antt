@@ -2,7 +2,7 @@
 use Rattle.std.proofs.Common.{◌≡◌, ◌⊎◌, inl, inr, ℕ, ◌<◌, Bool, true, false, List, [], length, slice_index_or, set, replicate, Some, Result, refl}
 use Rattle.std.proofs.Common.{sym, ◌∙◌, ap, subst, arith, length-set, get_or-set_same, get_or-set_other}
 use Rattle.std.proofs.lemmas.List.{length-replicate}
-use Rattle.std.proofs.lemmas.Bool.{false≢true, cases_eq}
+use Rattle.std.proofs.lemmas.Bool.{false≢true, cases_eq, cases_Bool}
 use Rattle.bm_base.specs.declared.dims.Dims.{Dims}
 use Rattle.bm_base.specs.declared.fault.Failed.{Failed}
 use Rattle.bm_base.specs.Contents.{Contents, RackUnit, block_unit, page_unit, unit_at, page_at, block_at, HasSizes}
@@ -129,16 +129,12 @@ image_with_page v dims page bytes below long sizes dirty = (
   with_page_here dims v.contents page bytes below sizes,
 )
 
-bool_cases : (b : Bool) → (b ≡ true) ⊎ (b ≡ false)
-bool_cases true = inl refl
-bool_cases false = inr refl
-
 -- a page that is no such page as this one in any image is clean
 pub never_settled : (P : List ℕ → Type 0) (v : RackView) (dims : Dims) (page : ℕ) (bytes : List ℕ) → page < 516 → length bytes ≡ 512
     → v.stands ≡ Some dims
     → HasSizes dims v.contents → ¬ P bytes → InEveryImage (λ c. P (page_at c page)) v → Settled P page v
 never_settled P v dims page bytes below long stands sizes none every = record {
-  clean = elim (bool_cases (v.dirty (page_unit page))) [
+  clean = elim (cases_Bool (v.dirty (page_unit page))) [
     | inl dirty ↦
         let found = image_with_page v dims page bytes below long sizes dirty in
         absurd (none (subst P found.2 (every dims found.0 stands found.1)))

@@ -1,9 +1,8 @@
 -- What stands where in a job body and in a pass body.
-use Rattle.std.proofs.Common.{◌≡◌, ◌≢◌, inl, inr, ⊎_elim, ℕ, ◌+◌, ◌-◌, ◌*◌, ◌^◌, ◌<◌, ◌≤◌, ◌==◌, true, false, List, codes, length, drop}
+use Rattle.std.proofs.Common.{◌≡◌, ◌≢◌, inl, inr, ⊎_elim, ℕ, ◌+◌, ◌-◌, ◌*◌, ◌^◌, ◌<◌, ◌≤◌, List, codes, length, drop}
 use Rattle.std.proofs.Common.{slice_index, refl, ap, ◌∙◌, arith}
 use Rattle.std.specs.Int.{div_ceil}
-use Rattle.std.proofs.lemmas.Bool.{cases_lt, cases_eq}
-use Rattle.std.proofs.lemmas.Bool.Decides.{nat_tests}
+use Rattle.std.proofs.lemmas.Bool.{cases_lt, cases_eq, eq-eqb, ne_eqb}
 use Rattle.std.proofs.lemmas.Grind.{div_ceil_times}
 use Rattle.std.proofs.Math.Nat.{mul-le-mul_left, add-mul, mul-add}
 use Rattle.bm_base.specs.declared.shape.Shape.{Shape}
@@ -14,9 +13,10 @@ use Rattle.bm_forms.specs.declared.job.Job.TheVariants.{Permute, Walsh}
 use Rattle.bm_forms.specs.declared.pass_form.PassForm.{PassForm}
 use Rattle.bm_forms.specs.PassLimit.{limit_of, rotation_columns, rotation_limit, rounds_of, last_bits}
 use Rattle.bm_forms.proofs.PassLimitLemmas.{limit_few}
-use Rattle.bm_control.specs.Bodies.{loads_of, u16_in, u64_in, body_head, map_bytes, map_page, kind_of, job_map, job_version, named_loads, job_page}
+use Rattle.bm_base.specs.Shape.{loads_of}
+use Rattle.bm_control.specs.Bodies.{u16_in, u64_in, body_head, map_bytes, map_page, kind_of, job_map, job_version, named_loads, job_page}
 use Rattle.bm_control.specs.Bodies.{pass_page, IsJobBody, IsPassBody}
-use Rattle.bm_control.proofs.BodyLemmas.{length-body_head, length-map_bytes, loads_small, version_of, first_of, number_of_head, last_of}
+use Rattle.bm_control.proofs.BodyLemmas.{length-body_head, length-map_bytes, loads_small, version_of, first_of, second_of, number_of_head, last_of}
 
 -- the rounds of the transform have few passes together
 rounds_most : (n m b before x y : ℕ) → b < m → m ≤ n → n ≤ 52 → before ≡ div_ceil n m - 1 → x ≤ b + 2 → y ≤ b + 2 → before * x + y ≤ 254
@@ -55,27 +55,21 @@ limit-most s Walsh =
 pub record JobNumbers (s : Shape) (page : List ℕ) (job : Job) (passes every : ℕ) : Type 0 where
   pub version : u16_in (drop 8 page) ≡ job_version s every
   pub kind : slice_index page 10 ≡ kind_of job
+  pub bits : slice_index page 11 ≡ s.n
   pub passes_are : u16_in (drop 12 page) ≡ passes
   pub named : u64_in (drop 504 page) ≡ named_loads s every
 
--- both tests of the number of loads
-same_test : (a b : ℕ) → a ≡ b → (a == b) ≡ true
-same_test a b h = grind (arith, nat_tests)
-
-other_test : (a b : ℕ) → a ≢ b → (a == b) ≡ false
-other_test a b h = grind (arith, nat_tests)
-
 pub version_whole : (s : Shape) (every : ℕ) → every ≡ loads_of s → job_version s every ≡ 1
-version_whole s every h = rw (same_test every (loads_of s) h) refl
+version_whole s every h = rw (eq-eqb every (loads_of s) h) refl
 
 pub version_parts : (s : Shape) (every : ℕ) → every ≢ loads_of s → job_version s every ≡ 2
-version_parts s every h = rw (other_test every (loads_of s) h) refl
+version_parts s every h = rw (ne_eqb every (loads_of s) h) refl
 
 named_whole : (s : Shape) (every : ℕ) → every ≡ loads_of s → named_loads s every ≡ 0
-named_whole s every h = rw (same_test every (loads_of s) h) refl
+named_whole s every h = rw (eq-eqb every (loads_of s) h) refl
 
 pub named_parts : (s : Shape) (every : ℕ) → every ≢ loads_of s → named_loads s every ≡ every
-named_parts s every h = rw (other_test every (loads_of s) h) refl
+named_parts s every h = rw (ne_eqb every (loads_of s) h) refl
 
 version_small : (s : Shape) (every : ℕ) → job_version s every < 2 ^ 16
 version_small s every = elim (cases_eq every (loads_of s)) [
@@ -108,6 +102,7 @@ job_numbers s page job passes every body =
       version = version_of (codes "BMMCTASK") (job_map job) page (job_version s every) (kind_of job) s.n passes (named_loads s every) refl
           (version_small s every) body.page_is;
       kind = first_of (codes "BMMCTASK") (job_map job) page (job_version s every) (kind_of job) s.n passes (named_loads s every) refl body.page_is;
+      bits = second_of (codes "BMMCTASK") (job_map job) page (job_version s every) (kind_of job) s.n passes (named_loads s every) refl body.page_is;
       passes_are = number_of_head (codes "BMMCTASK") (job_map job) page (job_version s every) (kind_of job) s.n passes (named_loads s every) refl
           (omega arith) body.page_is;
       named = last_of (body_head (codes "BMMCTASK") (job_version s every) (kind_of job) s.n passes) (job_map job) page (named_loads s every)

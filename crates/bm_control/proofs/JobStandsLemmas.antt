@@ -1,8 +1,8 @@
 -- An open job in contents of which one page is another.
-use Rattle.std.proofs.Common.{◌≡◌, ◌≢◌, ◌⊎◌, inl, inr, ℕ, ◌+◌, ◌/◌, ◌%◌, ◌^◌, ◌<◌, ◌≤◌, List, length, take, sym, ◌∙◌, ap, subst, arith}
+use Rattle.std.proofs.Common.{◌≡◌, ◌≢◌, ◌⊎◌, inl, inr, ℕ, ◌+◌, ◌/◌, ◌%◌, ◌^◌, ◌<◌, ◌≤◌, List, [], ◌∷◌, length, take, slice_get, get_or, Some, sym, ◌∙◌, ap, subst, arith}
 use Rattle.std.proofs.Math.Path.{subst₂, fun_ext}
 use Rattle.std.proofs.lemmas.Bool.{cases_eq}
-use Rattle.std.proofs.lemmas.Option.{slice_get_within}
+use Rattle.std.proofs.lemmas.Option.{slice_get_within, slice_get-get_or}
 use Rattle.std.specs.Fork.{slice_chunk}
 use Rattle.bm_base.specs.declared.dims.Dims.{Dims}
 use Rattle.bm_base.specs.declared.shape.Shape.{Shape}
@@ -15,11 +15,18 @@ use Rattle.bm_base.specs.Records.{record_at, SameRecords}
 use Rattle.bm_forms.specs.declared.pass_form.PassForm.{PassForm}
 use Rattle.bm_forms.specs.Job.{meaning}
 use Rattle.bm_forms.specs.Plan.{all_passed}
-use Rattle.bm_control.specs.Bodies.{loads_of, load_page, IsJobBody, IsPassBody, IsPartBody}
-use Rattle.bm_control.specs.Consistent.{pass_body, pass_gate, slot_body, slot_gate, input_of, GatesAre, LoadsMoved, SlotStands, JobStands}
+use Rattle.bm_base.specs.Shape.{loads_of}
+use Rattle.bm_control.specs.Bodies.{IsJobBody, IsPassBody, IsPartBody}
+use Rattle.bm_control.specs.Pages.{load_body, load_gate, job_body, job_gate, pass_body, pass_gate, slot_body, slot_gate, HasOpenJob, HasLoadBody}
+use Rattle.bm_control.specs.Consistent.{input_of, GatesAre, LoadsMoved, SlotStands, JobStands}
 use Rattle.bm_control.specs.Consistent.{IsConsistent}
 use Rattle.bm_control.proofs.ImageLemmas.{DiffersIn}
 use Rattle.bm_control.proofs.JobBodyLemmas.{limit-most}
+
+-- an element of a list
+pub element : (forms : List PassForm) (k : ℕ) → k < length forms → (form : PassForm) × (slice_get forms k ≡ Some form)
+element [] k h = absurd (omega (arith, h))
+element (form ∷ forms) k h = (get_or (form ∷ forms) k form, slice_get-get_or (form ∷ forms) k form h)
 
 -- the records are the same where the blocks are
 pub recs_same : (P : ℕ → Type 0) (s : Shape) (area : Area) (a b : Contents) → DiffersIn P a b → record_at b s area ≡ record_at a s area
@@ -57,7 +64,7 @@ job_kept P s a b j done d two bodies gates work slots = record {
   job = j.job;
   forms = j.forms;
   every = j.every;
-  body = subst (λ (p : List ℕ). IsJobBody s p j.job (length j.forms) j.every) (sym (d.pages 2 two)) j.body;
+  body = subst (λ (p : List ℕ). IsJobBody s p j.job (length j.forms) j.every) (sym (d.pages job_body two)) j.body;
   of_shape = j.of_shape;
   bodies = λ k pass is. subst (λ (p : List ℕ). IsPassBody s k p pass) (sym (d.pages (pass_body k) (bodies k (slice_get_within j.forms k pass is))))
       (j.bodies k pass is);
@@ -81,11 +88,11 @@ gates_kept P a b passes done d other g = record {
 
 -- consistent contents, of which other pages than the first and the gates are changed, and an open job still stands
 pub consistent_kept : (P : ℕ → Type 0) (dims : Dims) (a b : Contents) → DiffersIn P a b → ¬ P 0 → ¬ P 1 → ¬ P 3 → IsConsistent dims a
-    → (IsOpenGate (page_at a 3) → (s : Shape) → page_at a 0 ≡ load_page s → JobStands s a → JobStands s b) → IsConsistent dims b
+    → (HasOpenJob a → (s : Shape) → HasLoadBody s a → JobStands s a → JobStands s b) → IsConsistent dims b
 consistent_kept P dims a b d body_kept load_kept gate_kept c job =
-    let zero = d.pages 0 body_kept in
-    let one = d.pages 1 load_kept in
-    let three = d.pages 3 gate_kept in
+    let zero = d.pages load_body body_kept in
+    let one = d.pages load_gate load_kept in
+    let three = d.pages job_gate gate_kept in
     record {
       loaded = λ gate. (let l = c.loaded (sym one ∙ gate) in record { shape = l.shape; body = zero ∙ l.body; dims_are = l.dims_are });
       after_load = λ gate. one ∙ c.after_load (sym three ∙ gate);
@@ -115,7 +122,7 @@ pub job_slot : (slot : ℕ) (s : Shape) (a b : Contents) (j : JobStands s a) →
     → (j.every < loads_of s → IsOpenGate (page_at b (slot_gate slot)) → SlotStands s b j.forms j.done slot) → JobStands s b
 job_slot slot s a b j d stands =
     let few = job_few s a j in
-    job_kept (InSlot slot) s a b j j.done d (slot_late slot 2 (omega arith)) (λ k h. slot_late slot (pass_body k) (omega (arith, h, few)))
+    job_kept (InSlot slot) s a b j j.done d (slot_late slot job_body (omega arith)) (λ k h. slot_late slot (pass_body k) (omega (arith, h, few)))
     (gates_kept (InSlot slot) a b (length j.forms) j.done d (λ k h. slot_late slot (pass_gate k) (omega (arith, h, few))) j.gates)
     j.work
     (λ less other h gate. elim (cases_eq other slot) [

@@ -7,6 +7,9 @@ pub mod ImageLemmas
 pub mod JobStandsLemmas
 pub mod SoundLemmas
 pub mod StateLemmas
+pub mod UniqueLemmas
+pub mod WrongPageLemmas
 pub mod StateCallLemmas
 pub mod MomentLemmas
 pub mod StartLemmas
+pub mod GoneLemmas

@@ -14,11 +14,12 @@ use Rattle.bm_rack.specs.Frames.{DirtiesOnly}
 use Rattle.bm_rack.specs.Calls.{IsPage}
 use Rattle.bm_forms.specs.Plan.{all_passed}
 use Rattle.bm_control.specs.Bodies.{load_page, PartBodyFits, part_page}
-use Rattle.bm_control.specs.Consistent.{pass_gate, slot_body, slot_gate, input_of, GatesAre, LoadsMoved, JobStands, IsConsistent}
+use Rattle.bm_control.specs.Consistent.{input_of, GatesAre, LoadsMoved, JobStands, IsConsistent}
 use Rattle.bm_control.specs.Moments.{PassIsDone, PartIsMoved}
+use Rattle.bm_control.specs.Pages.{load_gate, job_gate, load_body, pass_gate, slot_body, slot_gate}
 use Rattle.bm_control.specs.Sound.{IsSound}
 use Rattle.bm_control.proofs.BodyLemmas.{load_numbers}
-use Rattle.bm_control.proofs.EqualLemmas.{shape_equal}
+use Rattle.bm_base.proofs.EqualLemmas.{shape_equal}
 use Rattle.bm_control.proofs.ImageLemmas.{DiffersAt, DiffersIn, Settled, settled_in_image, image_self, image_same, image_of_clean}
 use Rattle.bm_control.proofs.JobStandsLemmas.{recs_same, job_few, slot_kept, job_kept, consistent_kept, InSlot, slot_late, job_slot}
 use Rattle.bm_control.proofs.SoundLemmas.{sound_page}
@@ -37,7 +38,7 @@ list_cases (x ∷ xs) (y ∷ ys) = elim (cases_eq x y) [
 ]
 
 -- a gate is open or closed
-gate_cases : (page : List ℕ) → IsOpenGate page ⊎ IsClosedGate page
+pub gate_cases : (page : List ℕ) → IsOpenGate page ⊎ IsClosedGate page
 gate_cases page = list_cases page open_gate
 
 -- a page is the load body of one shape
@@ -108,7 +109,7 @@ sound_opening old new dims k stands sizes sound clean p w =
     let c' = sound.consistent dims stands dims old.contents stands (image_self old dims sizes) in
     consistent_kept (λ i. i ≡ pass_gate k) dims old.contents image d' (λ e. omega (arith, e)) (λ e. omega (arith, e)) (λ e. omega (arith, e)) c'
     (λ gate s body j.
-    subst (λ (t : Shape). JobStands t image) (load_unique p.shape s (page_at old.contents 0) p.load body)
+    subst (λ (t : Shape). JobStands t image) (load_unique p.shape s (page_at old.contents load_body) p.load body)
     (job_opening p.shape old.contents image k p.job p.now p.below d' p.records)))
 
 -- contents that differ in a page of a slot differ in the slot
@@ -122,7 +123,7 @@ in_body slot a b d = record { blocks = d.blocks; pages = λ k not. d.pages k (λ
 slot_closed : (slot : ℕ) (dims : Dims) (a b : Contents) → DiffersIn (InSlot slot) a b → IsClosedGate (page_at b (slot_gate slot))
     → IsConsistent dims a → IsConsistent dims b
 slot_closed slot dims a b d closed c =
-    consistent_kept (InSlot slot) dims a b d (slot_late slot 0 (omega arith)) (slot_late slot 1 (omega arith)) (slot_late slot 3 (omega arith)) c
+    consistent_kept (InSlot slot) dims a b d (slot_late slot load_body (omega arith)) (slot_late slot load_gate (omega arith)) (slot_late slot job_gate (omega arith)) c
     (λ gate s body j. job_slot slot s a b j d (λ less opened. absurd (closed opened)))
 
 -- while the open gate of a slot is written over
@@ -164,11 +165,11 @@ sound_marking slot pass loads s first second old new dims below fits stands size
     sound_page (slot_gate slot) old new dims (omega arith) (λ e. omega (arith, e)) stands sizes sound y (λ before image was i d c.
     let d' = image_of_clean (slot_gate slot) old new dims image clean y i in
     let all = marked slot first second old dims image w x d' in
-    let zero = x.contents (page_unit 0) (λ e. omega (arith, e)) ∙ w.contents (page_unit 0) (λ e. omega (arith, e)) in
+    let zero = x.contents (page_unit load_body) (λ e. omega (arith, e)) ∙ w.contents (page_unit load_body) (λ e. omega (arith, e)) in
     let c' = sound.consistent dims stands dims old.contents stands (image_self old dims sizes) in
     consistent_kept (λ k. k ≡ slot_gate slot) dims old.contents image d' (λ e. omega (arith, e)) (λ e. omega (arith, e)) (λ e. omega (arith, e)) c'
     (λ gate t loaded j.
-    subst (λ (u : Shape). JobStands u image) (load_unique s t (page_at old.contents 0) (zero ∙ p.load) loaded)
+    subst (λ (u : Shape). JobStands u image) (load_unique s t (page_at old.contents load_body) (zero ∙ p.load) loaded)
     (job_slot slot s first.contents image p.job all (λ less opened. record {
       pass = pass;
       loads = loads;

@@ -8,7 +8,7 @@ use Rattle.bm_base.specs.declared.dims.Dims.{Dims}
 use Rattle.bm_base.specs.declared.shape.Shape.{Shape}
 use Rattle.bm_base.specs.Contents.{Contents, RackUnit, block_unit, page_unit, page_at, HasSizes}
 use Rattle.bm_base.specs.Gate.{open_gate, IsOpenGate, IsClosedGate}
-use Rattle.bm_base.specs.Shape.{dims_of}
+use Rattle.bm_base.specs.Shape.{dims_of, loads_of}
 use Rattle.bm_rack.specs.RackView.{RackView, IsClean}
 use Rattle.bm_rack.specs.Image.{InEveryImage, IsInputUnit}
 use Rattle.bm_rack.specs.Frames.{DirtiesOnly}
@@ -16,12 +16,13 @@ use Rattle.bm_rack.specs.Calls.{IsPage}
 use Rattle.bm_forms.specs.declared.job.Job.{Job}
 use Rattle.bm_forms.specs.declared.pass_form.PassForm.{PassForm}
 use Rattle.bm_forms.specs.Plan.{DoJob, all_passed}
-use Rattle.bm_control.specs.Bodies.{loads_of, padded, load_page, IsJobBody, IsPassBody}
-use Rattle.bm_control.specs.Consistent.{pass_body, pass_gate, slot_gate, input_of, JobStands}
+use Rattle.bm_control.specs.Bodies.{padded, load_page, IsJobBody, IsPassBody}
+use Rattle.bm_control.specs.Consistent.{input_of, JobStands}
 use Rattle.bm_control.specs.Moments.{PassesAreWritten, JobIsWritten}
+use Rattle.bm_control.specs.Pages.{load_gate, load_body, job_body, job_gate, pass_body, pass_gate, slot_gate, HasOpenLoad, HasClosedJob, HasLoadBody, HasJobBody, IsZeroPage}
 use Rattle.bm_control.specs.Sound.{IsSound}
 use Rattle.bm_control.proofs.EqualLemmas.{some_injective}
-use Rattle.bm_control.proofs.ImageLemmas.{Settled, settled_within, never_settled, open_settled, closed_settled, length-open_gate, image_self}
+use Rattle.bm_control.proofs.ImageLemmas.{zeros_closed, Settled, settled_within, never_settled, open_settled, closed_settled, length-open_gate, image_self}
 use Rattle.bm_control.proofs.ImageLemmas.{image_of_clean, DiffersAt}
 use Rattle.bm_control.proofs.SoundLemmas.{sound_loaded, sound_page}
 use Rattle.bm_control.proofs.MomentLemmas.{load_unique}
@@ -46,7 +47,7 @@ written_none s forms v = record { bodies = λ i pass h. absurd (omega (arith, h)
 -- one more pass
 pub written_more : (s : Shape) (forms : List PassForm) (k : ℕ) (pass : PassForm) (old new : RackView) → slice_get forms k ≡ Some pass
     → DirtiesOnly (λ u. IsPage (4 + 2 * k) u ⊎ IsPage (5 + 2 * k) u) old new
-    → IsPassBody s k (page_at new.contents (pass_body k)) pass → IsClosedGate (page_at new.contents (pass_gate k))
+    → IsPassBody s k (page_at new.contents (pass_body k)) pass → IsZeroPage (page_at new.contents (pass_gate k))
     → PassesAreWritten s forms k old.contents → PassesAreWritten s forms (k + 1) new.contents
 written_more s forms k pass old new is w body gate before = record {
   bodies = λ i other h there. elim (cases_eq i k) [
@@ -58,8 +59,8 @@ written_more s forms k pass old new is w body gate before = record {
         (before.bodies i other (omega (arith, h, not)) there)
   ];
   gates = λ i h. elim (cases_eq i k) [
-    | inl same ↦ subst (λ (x : ℕ). IsClosedGate (page_at new.contents (pass_gate x))) (sym same) gate
-    | inr not ↦ subst IsClosedGate (sym (w.contents (page_unit (pass_gate i)) (apart_gate i not))) (before.gates i (omega (arith, h, not)))
+    | inl same ↦ subst (λ (x : ℕ). IsZeroPage (page_at new.contents (pass_gate x))) (sym same) gate
+    | inr not ↦ subst IsZeroPage (sym (w.contents (page_unit (pass_gate i)) (apart_gate i not))) (before.gates i (omega (arith, h, not)))
   ];
 }
   where
@@ -77,55 +78,55 @@ pub passes_kept : (s : Shape) (forms : List PassForm) (k : ℕ) (old new : RackV
     → PassesAreWritten s forms k new.contents
 passes_kept s forms k old new few w before = record {
   bodies = λ i pass h there. subst (λ (p : List ℕ). IsPassBody s i p pass)
-      (sym (w.contents (page_unit (pass_body i)) (no_slot (pass_body i) (omega arith)))) (before.bodies i pass h there);
-  gates = λ i h. subst IsClosedGate (sym (w.contents (page_unit (pass_gate i)) (no_slot (pass_gate i) (omega arith)))) (before.gates i h);
+      (sym (w.contents (page_unit (pass_body i)) (late (pass_body i) (omega arith)))) (before.bodies i pass h there);
+  gates = λ i h. subst IsZeroPage (sym (w.contents (page_unit (pass_gate i)) (late (pass_gate i) (omega arith)))) (before.gates i h);
 }
   where
-    no_slot : (page : ℕ) → page < 513 → ¬ IsSlotGate (page_unit page)
-    no_slot page early (inl is) = omega (arith, early, is)
-    no_slot page early (inr is) = omega (arith, early, is)
+    late : (page : ℕ) → page < slot_gate 0 → ¬ IsSlotGate (page_unit page)
+    late page early (inl is) = omega (arith, early, is)
+    late page early (inr is) = omega (arith, early, is)
 
 -- all pages of the job
-pub job_written : (s : Shape) (job : Job) (forms : List PassForm) (every : ℕ) (v : Contents) → IsJobBody s (page_at v 2) job (length forms) every
-    → PassesAreWritten s forms (length forms) v → (every < loads_of s → (IsClosedGate (page_at v 513)) × IsClosedGate (page_at v 515))
+pub job_written : (s : Shape) (job : Job) (forms : List PassForm) (every : ℕ) (v : Contents) → HasJobBody s v job (length forms) every
+    → PassesAreWritten s forms (length forms) v → (every < loads_of s → IsZeroPage (page_at v (slot_gate 0)) × IsZeroPage (page_at v (slot_gate 1)))
     → JobIsWritten s job forms every v
 job_written s job forms every v body passes slots = record {
   body = body;
   bodies = λ k pass there. passes.bodies k pass (slice_get_within forms k pass there) there;
   gates = passes.gates;
   slots = λ less slot h. elim (cases_eq slot 0) [
-    | inl zero ↦ subst (λ (x : ℕ). IsClosedGate (page_at v (slot_gate x))) (sym zero) (slots less).0
-    | inr not ↦ (let one : slot ≡ 1 = omega arith in subst (λ (x : ℕ). IsClosedGate (page_at v (slot_gate x))) (sym one) (slots less).1)
+    | inl zero ↦ subst (λ (x : ℕ). IsZeroPage (page_at v (slot_gate x))) (sym zero) (slots less).0
+    | inr not ↦ (let one : slot ≡ 1 = omega arith in subst (λ (x : ℕ). IsZeroPage (page_at v (slot_gate x))) (sym one) (slots less).1)
   ];
 }
 
 -- are as before where its gate is changed
-pub job_written_kept : (s : Shape) (job : Job) (forms : List PassForm) (every : ℕ) (old new : RackView) → DirtiesOnly (IsPage 3) old new
+pub job_written_kept : (s : Shape) (job : Job) (forms : List PassForm) (every : ℕ) (old new : RackView) → DirtiesOnly (IsPage job_gate) old new
     → JobIsWritten s job forms every old.contents → JobIsWritten s job forms every new.contents
 job_written_kept s job forms every old new w j = record {
-  body = subst (λ (p : List ℕ). IsJobBody s p job (length forms) every) (sym (w.contents (page_unit 2) (λ e. omega (arith, e)))) j.body;
+  body = subst (λ (p : List ℕ). IsJobBody s p job (length forms) every) (sym (w.contents (page_unit job_body) (λ e. omega (arith, e)))) j.body;
   bodies = λ k pass there. subst (λ (p : List ℕ). IsPassBody s k p pass) (sym (w.contents (page_unit (pass_body k)) (λ e. omega (arith, e))))
       (j.bodies k pass there);
-  gates = λ k h. subst IsClosedGate (sym (w.contents (page_unit (pass_gate k)) (λ e. omega (arith, e)))) (j.gates k h);
-  slots = λ less slot h. subst IsClosedGate (sym (w.contents (page_unit (slot_gate slot)) (λ e. omega (arith, e)))) (j.slots less slot h);
+  gates = λ k h. subst IsZeroPage (sym (w.contents (page_unit (pass_gate k)) (λ e. omega (arith, e)))) (j.gates k h);
+  slots = λ less slot h. subst IsZeroPage (sym (w.contents (page_unit (slot_gate slot)) (λ e. omega (arith, e)))) (j.slots less slot h);
 }
 
 -- a loaded rack with no job, up to the moment at which its gate is written
 pub record IsLoadedRack (s : Shape) (v : RackView) : Type 0 where
   pub stands : v.stands ≡ Some (dims_of s)
-  pub load_gate : Settled IsOpenGate 1 v
-  pub load_body : Settled (λ p. p ≡ load_page s) 0 v
-  pub job_gate : Settled IsClosedGate 3 v
+  pub loaded : Settled IsOpenGate load_gate v
+  pub body_stands : Settled (λ p. p ≡ load_page s) load_body v
+  pub no_job : Settled IsClosedGate job_gate v
   pub input : (u : RackUnit) → IsInputUnit (dims_of s) u → v.dirty u ≡ false
 
 -- the sizes of a sound rack are those of the shape that is loaded
 pub loaded_stands : (s : Shape) (v : RackView) (dims : Dims) → v.stands ≡ Some dims → HasSizes dims v.contents → IsSound v
-    → InEveryImage (λ c. IsOpenGate (page_at c 1)) v
-    → page_at v.contents 0 ≡ load_page s → v.stands ≡ Some (dims_of s)
+    → InEveryImage HasOpenLoad v
+    → HasLoadBody s v.contents → v.stands ≡ Some (dims_of s)
 loaded_stands s v dims stands sizes sound opened body =
     let self = image_self v dims sizes in
     let l = (sound.consistent dims stands dims v.contents stands self).loaded (opened dims v.contents stands self) in
-    stands ∙ ap Some (sym l.dims_are ∙ ap dims_of (load_unique l.shape s (page_at v.contents 0) l.body body))
+    stands ∙ ap Some (sym l.dims_are ∙ ap dims_of (load_unique l.shape s (page_at v.contents load_body) l.body body))
 
 -- an open gate is no load body
 gate_no_body : ¬ ((s : Shape) × (open_gate ≡ load_page s))
@@ -136,16 +137,16 @@ gate_no_body found =
 
 -- at its beginning
 pub loaded_start : (s : Shape) (v : RackView) → v.stands ≡ Some (dims_of s) → HasSizes (dims_of s) v.contents → IsSound v
-    → InEveryImage (λ c. IsOpenGate (page_at c 1)) v → InEveryImage (λ c. IsClosedGate (page_at c 3)) v → page_at v.contents 0 ≡ load_page s
+    → InEveryImage HasOpenLoad v → InEveryImage HasClosedJob v → HasLoadBody s v.contents
     → IsLoadedRack s v
 loaded_start s v stands sizes sound opened closed body =
-    let some = never_settled (λ p. (t : Shape) × (p ≡ load_page t)) v (dims_of s) 0 open_gate (omega arith) length-open_gate stands sizes gate_no_body
+    let some = never_settled (λ p. (t : Shape) × (p ≡ load_page t)) v (dims_of s) load_body open_gate (omega arith) length-open_gate stands sizes gate_no_body
     (λ dims image is i. (let l = (sound.consistent dims is dims image is i).loaded (opened dims image is i) in (l.shape, l.body))) in
     record {
       stands = stands;
-      load_gate = open_settled v (dims_of s) 1 (omega arith) stands sizes opened;
-      load_body = record { clean = some.clean; holds = body };
-      job_gate = closed_settled v (dims_of s) 3 (omega arith) stands sizes closed;
+      loaded = open_settled v (dims_of s) load_gate (omega arith) stands sizes opened;
+      body_stands = record { clean = some.clean; holds = body };
+      no_job = closed_settled v (dims_of s) job_gate (omega arith) stands sizes closed;
       input = sound.input (dims_of s) v.contents stands (image_self v (dims_of s) sizes)
           (opened (dims_of s) v.contents stands (image_self v (dims_of s) sizes));
     }
@@ -170,24 +171,24 @@ pub loaded_within : (passes : ℕ) (parts : Type 0) (s : Shape) (old new : RackV
     → IsLoadedRack s old → IsLoadedRack s new
 loaded_within passes parts s old new w r = record {
   stands = w.stands ∙ r.stands;
-  load_gate = settled_within IsOpenGate (IsJobPage passes parts) 1 old new w
-      (job_page_apart passes 1 parts (omega arith) (λ e. omega (arith, e))) r.load_gate;
-  load_body = settled_within (λ p. p ≡ load_page s) (IsJobPage passes parts) 0 old new w
-      (job_page_apart passes 0 parts (omega arith) (λ e. omega (arith, e))) r.load_body;
-  job_gate = settled_within IsClosedGate (IsJobPage passes parts) 3 old new w
-      (job_page_apart passes 3 parts (omega arith) (λ e. omega (arith, e))) r.job_gate;
+  loaded = settled_within IsOpenGate (IsJobPage passes parts) load_gate old new w
+      (job_page_apart passes load_gate parts (omega arith) (λ e. omega (arith, e))) r.loaded;
+  body_stands = settled_within (λ p. p ≡ load_page s) (IsJobPage passes parts) load_body old new w
+      (job_page_apart passes load_body parts (omega arith) (λ e. omega (arith, e))) r.body_stands;
+  no_job = settled_within IsClosedGate (IsJobPage passes parts) job_gate old new w
+      (job_page_apart passes job_gate parts (omega arith) (λ e. omega (arith, e))) r.no_job;
   input = λ u is. w.dirty u (input_no_job_page passes parts (dims_of s) u is) (r.input u is);
 }
 
 -- the job gate alone
-pub job_gate_within : (passes : ℕ) (parts : Type 0) (old new : RackView) → DirtiesOnly (IsJobPage passes parts) old new → Settled IsClosedGate 3 old
-    → Settled IsClosedGate 3 new
-job_gate_within passes parts old new w r = settled_within IsClosedGate (IsJobPage passes parts) 3 old new w
-    (job_page_apart passes 3 parts (omega arith) (λ e. omega (arith, e))) r
+pub job_gate_within : (passes : ℕ) (parts : Type 0) (old new : RackView) → DirtiesOnly (IsJobPage passes parts) old new → Settled IsClosedGate job_gate old
+    → Settled IsClosedGate job_gate new
+job_gate_within passes parts old new w r = settled_within IsClosedGate (IsJobPage passes parts) job_gate old new w
+    (job_page_apart passes job_gate parts (omega arith) (λ e. omega (arith, e))) r
 
 -- such a rack is sound
 pub loaded_sound : (s : Shape) (v : RackView) → IsLoadedRack s v → IsSound v
-loaded_sound s v r = sound_loaded v s r.stands r.load_body r.job_gate r.input
+loaded_sound s v r = sound_loaded v s r.stands r.body_stands r.no_job r.input
 
 -- the job stands where its pages do and its gate alone is changed
 started : (s : Shape) (job : Job) (forms : List PassForm) (every : ℕ) (a b : Contents) → DoJob forms s.n job → JobIsWritten s job forms every a
@@ -197,7 +198,7 @@ started s job forms every a b does j d = record {
   job = job;
   forms = forms;
   every = every;
-  body = subst (λ (p : List ℕ). IsJobBody s p job (length forms) every) (sym (d.pages 2 (λ e. omega (arith, e)))) j.body;
+  body = subst (λ (p : List ℕ). IsJobBody s p job (length forms) every) (sym (d.pages job_body (λ e. omega (arith, e)))) j.body;
   of_shape = λ k d h. (j.bodies k (get_or forms k d) (slice_get-get_or forms k d h)).of_shape;
   bodies = λ k pass there. subst (λ (p : List ℕ). IsPassBody s k p pass) (sym (d.pages (pass_body k) (λ e. omega (arith, e))))
       (j.bodies k pass there);
@@ -206,24 +207,24 @@ started s job forms every a b does j d = record {
   gates = record {
     few = omega arith;
     opened = λ k h. absurd (omega (arith, h));
-    closed = λ k from h opened. j.gates k h (sym (d.pages (pass_gate k) (λ e. omega (arith, e))) ∙ opened);
+    closed = λ k from h opened. zeros_closed _ (j.gates k h) (sym (d.pages (pass_gate k) (λ e. omega (arith, e))) ∙ opened);
   };
   work = λ x h. refl;
-  slots = λ less slot h opened. absurd (j.slots less slot h (sym (d.pages (slot_gate slot) (λ e. omega (arith, e))) ∙ opened));
+  slots = λ less slot h opened. absurd (zeros_closed _ (j.slots less slot h) (sym (d.pages (slot_gate slot) (λ e. omega (arith, e))) ∙ opened));
 }
 
 -- while the gate of a job is written whose pages are on the disks
 pub sound_started : (s : Shape) (job : Job) (forms : List PassForm) (every : ℕ) (old new : RackView) → HasSizes (dims_of s) old.contents
     → IsClean old → IsLoadedRack s old
-    → DoJob forms s.n job → JobIsWritten s job forms every old.contents → DirtiesOnly (IsPage 3) old new → IsSound new
+    → DoJob forms s.n job → JobIsWritten s job forms every old.contents → DirtiesOnly (IsPage job_gate) old new → IsSound new
 sound_started s job forms every old new sizes clean r does j w =
-    sound_page 3 old new (dims_of s) (omega arith) (λ e. omega (arith, e)) r.stands sizes (loaded_sound s old r) w (λ before image was i d c.
-    let d' = image_of_clean 3 old new (dims_of s) image clean w i in
-    let zero = d'.pages 0 (λ e. omega (arith, e)) ∙ r.load_body.holds in
+    sound_page job_gate old new (dims_of s) (omega arith) (λ e. omega (arith, e)) r.stands sizes (loaded_sound s old r) w (λ before image was i d c.
+    let d' = image_of_clean job_gate old new (dims_of s) image clean w i in
+    let zero = d'.pages load_body (λ e. omega (arith, e)) ∙ r.body_stands.holds in
     record {
       loaded = λ gate. record { shape = s; body = zero; dims_are = refl };
-      after_load = λ gate. d'.pages 1 (λ e. omega (arith, e)) ∙ r.load_gate.holds;
-      job = λ gate t loaded. subst (λ (u : Shape). JobStands u image) (load_unique s t (page_at image 0) zero loaded)
+      after_load = λ gate. d'.pages load_gate (λ e. omega (arith, e)) ∙ r.loaded.holds;
+      job = λ gate t loaded. subst (λ (u : Shape). JobStands u image) (load_unique s t (page_at image load_body) zero loaded)
           (started s job forms every old.contents image does j d');
     })
 
@@ -231,5 +232,5 @@ sound_started s job forms every old new sizes clean r does j w =
 pub start_passes : (passes : ℕ) (parts : Type 0) (u : RackUnit) → IsJobPage passes parts u → IsStartPage passes parts u
 start_passes passes parts u is = inr is
 
-pub start_gate : (passes : ℕ) (parts : Type 0) (u : RackUnit) → IsPage 3 u → IsStartPage passes parts u
+pub start_gate : (passes : ℕ) (parts : Type 0) (u : RackUnit) → IsPage job_gate u → IsStartPage passes parts u
 start_gate passes parts u is = inl is

@@ -10,8 +10,10 @@ use Rattle.bm_control.specs.declared.state.SlateState.{SlateState}
 use Rattle.bm_control.specs.declared.state.SlateState.TheVariants.{Closed, Loaded, Working}
 use Rattle.bm_control.specs.declared.state.ControlError.{ControlError}
 use Rattle.bm_control.specs.declared.state.ControlError.TheVariants.{Failed, BadPage}
-use Rattle.bm_control.specs.Bodies.{loads_of, IsJobBody, IsPartBody}
-use Rattle.bm_control.specs.Consistent.{pass_gate, slot_body, slot_gate, GatesAre}
+use Rattle.bm_base.specs.Shape.{loads_of}
+use Rattle.bm_control.specs.Bodies.{IsPartBody}
+use Rattle.bm_control.specs.Pages.{pass_gate, slot_body, slot_gate, HasJobBody}
+use Rattle.bm_control.specs.Consistent.{GatesAre}
 use Rattle.bm_control.specs.Progress.{Counts}
 use Rattle.bm_control.specs.State.{HasPassBody, PassesStand, PassRead, PassAnswer, PassesAnswer, SlotRead, SlotAnswer, SlotsAnswer, SlotsRead}
 use Rattle.bm_control.specs.State.{IsGoodSlot, CountedOf, CountFits, PartFits, IsWorking, IsJobOpen, JobAnswer, ProgressAnswer, StateAnswer}
@@ -203,7 +205,7 @@ pub progress_slots_bad : (s : Shape) (v : Contents) (passes every done : ℕ) (e
 progress_slots_bad s v passes every done Failed stand answer = tt
 progress_slots_bad s v passes every done (BadPage page) stand answer = inr (answer.0, (done, stand, answer.1))
 
-pub job_progress_bad : (s : Shape) (v : Contents) (job : Job) (passes every : ℕ) (e : ControlError) → IsJobBody s (page_at v 2) job passes every
+pub job_progress_bad : (s : Shape) (v : Contents) (job : Job) (passes every : ℕ) (e : ControlError) → HasJobBody s v job passes every
     → ProgressAnswer s v passes every (Err e) → JobAnswer s v (Err e)
 job_progress_bad s v job passes every Failed body answer = tt
 job_progress_bad s v job passes every (BadPage page) body answer = inr

@@ -1,8 +1,9 @@
 -- The body pages of the control file: a list of 512 bytes for each value. Numbers are little-endian.
-use Rattle.std.specs.Prelude.{◌≡◌, ℕ, zero, suc, ◌+◌, ◌-◌, ◌^◌, ◌<◌, ◌≤◌, ◌==◌, if◌then◌else◌, List, [], ◌∷◌, ◌++◌, length, replicate, slice_index}
+use Rattle.std.specs.Prelude.{◌≡◌, ℕ, zero, suc, ◌+◌, ◌-◌, ◌<◌, ◌≤◌, ◌==◌, if◌then◌else◌, List, [], ◌∷◌, ◌++◌, length, replicate, slice_index}
 use Rattle.std.specs.Prelude.{codes}
 use Rattle.byteorder.specs.Endian.{little_bytes, little_number}
 use Rattle.bm_base.specs.declared.shape.Shape.{Shape}
+use Rattle.bm_base.specs.Shape.{loads_of}
 use Rattle.bm_gf2.specs.declared.affine.Affine.{Affine}
 use Rattle.bm_forms.specs.declared.job.Job.{Job}
 use Rattle.bm_forms.specs.declared.job.Job.TheVariants.{Permute, Walsh}
@@ -10,10 +11,6 @@ use Rattle.bm_forms.specs.declared.pass_form.PassForm.{PassForm}
 use Rattle.bm_forms.specs.Job.{JobFits}
 use Rattle.bm_forms.specs.PassForm.{IsOfShape}
 use Rattle.bm_forms.specs.PassLimit.{limit_of}
-
--- N/M: the memory loads of an area
-abbrev pub loads_of : Shape → ℕ
-loads_of s = 2 ^ (s.n - s.m)
 
 -- a number as 2 and as 8 bytes, and the number in the first 2 and in the first 8 bytes
 unfoldable pub u16_bytes : ℕ → List ℕ
@@ -95,25 +92,14 @@ pub record JobBodyFits (s : Shape) (job : Job) (passes every : ℕ) : Type 0 whe
   pub every_some : 1 ≤ every
   pub every_few : every ≤ loads_of s
 
--- a map has 52 columns, as its type has
-abbrev pub HasColumns : Affine → Type 0
-HasColumns f = length f.a.cols ≡ 52
-
--- and so has a job's
-abbrev pub JobHasColumns : Job → Type 0
-JobHasColumns (Permute f) = HasColumns f
-JobHasColumns Walsh = Unit {0}
-
 -- the page decodes to these values: it is their job body
 pub record IsJobBody (s : Shape) (page : List ℕ) (job : Job) (passes every : ℕ) : Type 0 where
-  pub columns : JobHasColumns job
   pub fits : JobBodyFits s job passes every
   pub page_is : page ≡ job_page s job passes every
 
 -- The page decodes to this pass as pass k + 1: it is its body. No pass has a number above 256.
 pub record IsPassBody (s : Shape) (k : ℕ) (page : List ℕ) (pass : PassForm) : Type 0 where
   pub number : k < 256
-  pub columns : HasColumns pass.map.map
   pub of_shape : IsOfShape s pass
   pub page_is : page ≡ pass_page s pass k
 

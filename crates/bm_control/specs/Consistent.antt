@@ -8,28 +8,15 @@ use Rattle.bm_base.specs.Area.{area_after}
 use Rattle.bm_base.specs.Contents.{Contents, page_at}
 use Rattle.bm_base.specs.Gate.{IsOpenGate, IsClosedGate}
 use Rattle.bm_base.specs.Records.{record_at, SameRecords}
-use Rattle.bm_base.specs.Shape.{dims_of}
+use Rattle.bm_base.specs.Shape.{dims_of, loads_of}
 use Rattle.bm_gf2.specs.Affine.{affine_image}
 use Rattle.bm_forms.specs.declared.job.Job.{Job}
 use Rattle.bm_forms.specs.declared.pass_form.PassForm.{PassForm}
 use Rattle.bm_forms.specs.Job.{meaning}
 use Rattle.bm_forms.specs.PassForm.{IsOfShape}
 use Rattle.bm_forms.specs.Plan.{all_passed}
-use Rattle.bm_control.specs.Bodies.{loads_of, load_page, IsJobBody, IsPassBody, IsPartBody}
-
--- the page of a pass's body, counted from 0, and of its gate
-abbrev pub pass_body : ℕ → ℕ
-pass_body k = 4 + 2 * k
-
-abbrev pub pass_gate : ℕ → ℕ
-pass_gate k = 5 + 2 * k
-
--- the page of a slot's body, 0 or 1, and of its gate
-abbrev pub slot_body : ℕ → ℕ
-slot_body slot = 512 + 2 * slot
-
-abbrev pub slot_gate : ℕ → ℕ
-slot_gate slot = 513 + 2 * slot
+use Rattle.bm_control.specs.Bodies.{IsPassBody, IsPartBody}
+use Rattle.bm_control.specs.Pages.{pass_body, pass_gate, slot_body, slot_gate, HasOpenLoad, HasOpenJob, HasLoadBody, HasJobBody}
 
 -- the input's records
 abbrev pub input_of : Contents → Shape → ℕ → List ℕ
@@ -68,7 +55,7 @@ pub record JobStands (s : Shape) (v : Contents) : Type 0 where
   pub forms : List PassForm
   -- after how many loads of a pass its progress is made durable
   pub every : ℕ
-  pub body : IsJobBody s (page_at v 2) job (length forms) every
+  pub body : HasJobBody s v job (length forms) every
   pub of_shape : All (IsOfShape s) forms
   pub bodies : BodiesAre s v forms
   -- the passes do the job to this input
@@ -82,11 +69,11 @@ pub record JobStands (s : Shape) (v : Contents) : Type 0 where
 -- a shape whose load body stands, and whose rack has these sizes
 pub record LoadStands (dims : Dims) (v : Contents) : Type 0 where
   pub shape : Shape
-  pub body : page_at v 0 ≡ load_page shape
+  pub body : HasLoadBody shape v
   pub dims_are : dims_of shape ≡ dims
 
 -- Consistent contents of a rack of these sizes: an open load gate has a load body, and an open job gate has a loaded shape and an open job.
 pub record IsConsistent (dims : Dims) (v : Contents) : Type 0 where
-  pub loaded : IsOpenGate (page_at v 1) → LoadStands dims v
-  pub after_load : IsOpenGate (page_at v 3) → IsOpenGate (page_at v 1)
-  pub job : IsOpenGate (page_at v 3) → (s : Shape) → page_at v 0 ≡ load_page s → JobStands s v
+  pub loaded : HasOpenLoad v → LoadStands dims v
+  pub after_load : HasOpenJob v → HasOpenLoad v
+  pub job : HasOpenJob v → (s : Shape) → HasLoadBody s v → JobStands s v

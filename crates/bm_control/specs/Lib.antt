@@ -1,5 +1,6 @@
 pub mod PageFront
 pub mod Bodies
+pub mod Pages
 pub mod Consistent
 pub mod Sound
 pub mod Progress

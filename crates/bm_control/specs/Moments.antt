@@ -3,20 +3,21 @@ use Rattle.std.specs.Prelude.{◌≡◌, ℕ, ◌+◌, ◌^◌, ◌<◌, ◌≤�
 use Rattle.bm_base.specs.declared.shape.Shape.{Shape}
 use Rattle.bm_base.specs.Area.{area_after}
 use Rattle.bm_base.specs.Contents.{Contents, page_unit, page_at}
-use Rattle.bm_base.specs.Gate.{IsOpenGate, IsClosedGate}
 use Rattle.bm_base.specs.Records.{record_at, SameRecords}
 use Rattle.bm_rack.specs.RackView.{RackView}
 use Rattle.bm_forms.specs.declared.job.Job.{Job}
 use Rattle.bm_forms.specs.declared.pass_form.PassForm.{PassForm}
 use Rattle.bm_forms.specs.Plan.{all_passed}
-use Rattle.bm_control.specs.Bodies.{loads_of, load_page, IsJobBody, IsPassBody}
-use Rattle.bm_control.specs.Consistent.{JobStands, LoadsMoved, BodiesAre, input_of, pass_body, pass_gate, slot_gate}
+use Rattle.bm_base.specs.Shape.{loads_of}
+use Rattle.bm_control.specs.Bodies.{IsPassBody}
+use Rattle.bm_control.specs.Consistent.{JobStands, LoadsMoved, BodiesAre, input_of}
+use Rattle.bm_control.specs.Pages.{pass_body, pass_gate, slot_gate, HasOpenJob, HasLoadBody, HasJobBody, IsZeroPage}
 
 -- A job is open in these contents, and all records of pass k + 1, which is the one under way, are where they are to be.
 pub record PassIsDone (v : Contents) (k : ℕ) : Type 0 where
   pub shape : Shape
-  pub load : page_at v 0 ≡ load_page shape
-  pub gate : IsOpenGate (page_at v 3)
+  pub load : HasLoadBody shape v
+  pub gate : HasOpenJob v
   pub job : JobStands shape v
   pub now : job.done ≡ k
   pub below : k < length job.forms
@@ -24,8 +25,8 @@ pub record PassIsDone (v : Contents) (k : ℕ) : Type 0 where
 
 -- A job with slots is open in these contents, and the first `loads` loads of this pass, which is the one under way, are where they are to be.
 pub record PartIsMoved (s : Shape) (v : Contents) (pass loads : ℕ) : Type 0 where
-  pub load : page_at v 0 ≡ load_page s
-  pub gate : IsOpenGate (page_at v 3)
+  pub load : HasLoadBody s v
+  pub gate : HasOpenJob v
   pub job : JobStands s v
   pub parts : job.every < loads_of s
   pub now : pass ≡ job.done + 1
@@ -37,14 +38,14 @@ pub record PartIsMoved (s : Shape) (v : Contents) (pass loads : ℕ) : Type 0 wh
 abbrev pub IsCleanPage : ℕ → RackView → Type 0
 IsCleanPage page v = v.dirty (page_unit page) ≡ false
 
--- The pages of a new job are written: its body, the body of each pass with a closed gate, and, where it has slots, closed gates for them.
+-- The pages of a new job are written: its body, the body of each pass, and zeros on the gates of its passes and, where it has slots, of those.
 pub record JobIsWritten (s : Shape) (job : Job) (forms : List PassForm) (every : ℕ) (v : Contents) : Type 0 where
-  pub body : IsJobBody s (page_at v 2) job (length forms) every
+  pub body : HasJobBody s v job (length forms) every
   pub bodies : BodiesAre s v forms
-  pub gates : (k : ℕ) → k < length forms → IsClosedGate (page_at v (pass_gate k))
-  pub slots : every < loads_of s → (slot : ℕ) → slot < 2 → IsClosedGate (page_at v (slot_gate slot))
+  pub gates : (k : ℕ) → k < length forms → IsZeroPage (page_at v (pass_gate k))
+  pub slots : every < loads_of s → (slot : ℕ) → slot < 2 → IsZeroPage (page_at v (slot_gate slot))
 
 -- so are the pages of its first k passes
 pub record PassesAreWritten (s : Shape) (forms : List PassForm) (k : ℕ) (v : Contents) : Type 0 where
   pub bodies : (i : ℕ) (pass : PassForm) → i < k → slice_get forms i ≡ Some pass → IsPassBody s i (page_at v (pass_body i)) pass
-  pub gates : (i : ℕ) → i < k → IsClosedGate (page_at v (pass_gate i))
+  pub gates : (i : ℕ) → i < k → IsZeroPage (page_at v (pass_gate i))

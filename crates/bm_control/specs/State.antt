@@ -1,5 +1,5 @@
 -- What the control file tells: its state, or the first page of it that is wrong, in the order in which it is read.
-use Rattle.std.specs.Prelude.{Ok, Err, ◌≡◌, ◌≢◌, ◌⊎◌, ℕ, ◌+◌, ◌<◌, ◌≤◌, List, Option, Some, None, Result}
+use Rattle.std.specs.Prelude.{Ok, Err, ◌≡◌, ◌⊎◌, ℕ, ◌+◌, ◌<◌, ◌≤◌, List, Option, Some, None, Result}
 use Rattle.bm_base.specs.declared.shape.Shape.{Shape}
 use Rattle.bm_base.specs.Contents.{Contents, page_at}
 use Rattle.bm_base.specs.Gate.{IsOpenGate, IsClosedGate}
@@ -9,8 +9,11 @@ use Rattle.bm_control.specs.declared.state.SlateState.{SlateState}
 use Rattle.bm_control.specs.declared.state.SlateState.TheVariants.{Closed, Loaded, Working}
 use Rattle.bm_control.specs.declared.state.ControlError.{ControlError}
 use Rattle.bm_control.specs.declared.state.ControlError.TheVariants.{Failed, BadPage}
-use Rattle.bm_control.specs.Bodies.{loads_of, load_page, JobBodyFits, IsJobBody, IsPassBody, IsPartBody}
-use Rattle.bm_control.specs.Consistent.{pass_body, pass_gate, slot_body, slot_gate, GatesAre}
+use Rattle.bm_base.specs.Shape.{loads_of}
+use Rattle.bm_control.specs.Bodies.{JobBodyFits, IsPassBody, IsPartBody}
+use Rattle.bm_control.specs.Pages.{load_body, job_body, pass_body, pass_gate, slot_body, slot_gate}
+use Rattle.bm_control.specs.Pages.{HasOpenLoad, HasClosedLoad, HasOpenJob, HasClosedJob, HasLoadBody, HasJobBody, no_slot}
+use Rattle.bm_control.specs.Consistent.{GatesAre}
 use Rattle.bm_control.specs.Progress.{Counts, IsCounted}
 
 -- the body of pass k + 1 decodes
@@ -61,7 +64,7 @@ IsBadSlotPage s v passes done page =
 
 -- the open job of these contents, as it is told
 pub record IsWorking (s : Shape) (v : Contents) (job : Job) (passes done every part slot : ℕ) : Type 0 where
-  pub body : IsJobBody s (page_at v 2) job passes every
+  pub body : HasJobBody s v job passes every
   pub stand : PassesStand s v passes done
   pub slots : every < loads_of s → (other : ℕ) → other < 2 → IsGoodSlot s v passes done other
   pub counted : IsCounted s v every done part slot
@@ -77,24 +80,24 @@ pub record IsBadBehind (s : Shape) (v : Contents) (page : ℕ) : Type 0 where
   pub job : Job
   pub passes : ℕ
   pub every : ℕ
-  pub body : IsJobBody s (page_at v 2) job passes every
+  pub body : HasJobBody s v job passes every
   pub bad : IsBadProgress s v passes every page
 
 -- page `page` is the first that is wrong of an open job
 abbrev pub IsBadJobPage : Shape → Contents → ℕ → Type 0
 IsBadJobPage s v page =
-    ((page ≡ 2) × ((job : Job) (passes every : ℕ) → ¬ IsJobBody s (page_at v 2) job passes every)) ⊎ IsBadBehind s v page
+    ((page ≡ job_body) × ((job : Job) (passes every : ℕ) → ¬ HasJobBody s v job passes every)) ⊎ IsBadBehind s v page
 
 -- what a shape is loaded, and a job open
 pub record IsJobOpen (s : Shape) (v : Contents) : Type 0 where
-  pub load_gate : IsOpenGate (page_at v 1)
-  pub load_body : page_at v 0 ≡ load_page s
-  pub job_gate : IsOpenGate (page_at v 3)
+  pub load_gate : HasOpenLoad v
+  pub load_body : HasLoadBody s v
+  pub job_gate : HasOpenJob v
 
 -- page `page` is the first that is wrong
 abbrev pub IsFirstBad : Contents → ℕ → Type 0
 IsFirstBad v page =
-    ((page ≡ 0) × IsOpenGate (page_at v 1) × ((s : Shape) → page_at v 0 ≢ load_page s))
+    ((page ≡ load_body) × HasOpenLoad v × ((s : Shape) → ¬ HasLoadBody s v))
     ⊎ ((s : Shape) × IsJobOpen s v × IsBadJobPage s v page)
 
 -- What is answered of the pages of an open job; the answers exclude one another.
@@ -108,8 +111,8 @@ JobAnswer s v (Err (BadPage page)) = IsBadJobPage s v page
 -- What the control file tells, in the order in which it is read: Closed where the load gate is closed, Loaded where the job gate is,
 -- else Working, or the first page that is wrong. The answers exclude one another.
 abbrev pub StateAnswer : Contents → Result SlateState ControlError → Type 0
-StateAnswer v (Ok Closed) = IsClosedGate (page_at v 1)
-StateAnswer v (Ok (Loaded s)) = IsOpenGate (page_at v 1) × (page_at v 0 ≡ load_page s) × IsClosedGate (page_at v 3)
+StateAnswer v (Ok Closed) = HasClosedLoad v
+StateAnswer v (Ok (Loaded s)) = HasOpenLoad v × HasLoadBody s v × HasClosedJob v
 StateAnswer v (Ok (Working s job passes done every part slot)) = IsJobOpen s v × IsWorking s v job passes done every part slot
 StateAnswer v (Err Failed) = Unit {0}
 StateAnswer v (Err (BadPage page)) = IsFirstBad v page
@@ -160,7 +163,7 @@ ProgressAnswer s v passes every (Err (BadPage page)) = IsBadProgress s v passes 
 -- which of two slots is counted, by what was found of them: the one with more loads, and the first where both have one number
 pub record CountedOf (first second : Option ℕ) (part slot : ℕ) : Type 0 where
   pub range : slot ≤ 2
-  pub none : slot ≡ 2 → (first ≡ None) × (second ≡ None) × (part ≡ 0)
+  pub none : slot ≡ no_slot → (first ≡ None) × (second ≡ None) × (part ≡ 0)
   pub zero : slot ≡ 0 → (first ≡ Some part) × ((loads : ℕ) → second ≡ Some loads → loads ≤ part)
   pub one : slot ≡ 1 → (second ≡ Some part) × ((loads : ℕ) → first ≡ Some loads → loads < part)
 
@@ -180,10 +183,10 @@ pub record CountFits (s : Shape) (passes done loads : ℕ) : Type 0 where
 -- counts none.
 pub record PartFits (s : Shape) (passes done every part slot : ℕ) : Type 0 where
   pub range : slot ≤ 2
-  pub nothing : slot ≡ 2 → part ≡ 0
+  pub nothing : slot ≡ no_slot → part ≡ 0
   pub counts : slot < 2 → CountFits s passes done part
   pub parts : slot < 2 → every < loads_of s
-  pub whole : every ≡ loads_of s → slot ≡ 2
+  pub whole : every ≡ loads_of s → slot ≡ no_slot
   pub few : part < loads_of s
 
 -- the numbers of an open job keep their ranges: those of its body, no more passes done than there are, and the counted slot's

@@ -9,8 +9,8 @@ use Rattle.bm_forms.specs.declared.job.Job.{Job}
 use Rattle.bm_control.specs.declared.state.SlateState.{SlateState}
 use Rattle.bm_control.specs.declared.state.SlateState.TheVariants.{Closed, Loaded, Working}
 use Rattle.bm_control.specs.declared.state.ControlError.{ControlError}
-use Rattle.bm_control.specs.Bodies.{loads_of, load_page, IsJobBody}
-use Rattle.bm_control.specs.Consistent.{slot_gate}
+use Rattle.bm_base.specs.Shape.{loads_of}
+use Rattle.bm_control.specs.Pages.{slot_gate, HasClosedLoad, HasClosedJob, HasLoadBody, HasJobBody}
 use Rattle.bm_control.specs.PageCalls.{ReadsPages}
 
 -- so many pages are read of a slot: its gate, and its body where that is open
@@ -40,20 +40,25 @@ SlotCalls v before (Loaded s) old new = Unit {0}
 SlotCalls v before (Working s job passes done every part slot) old new =
     every < loads_of s → (one two : ℕ) → SlotReads v 0 one → SlotReads v 1 two → RaisesCounts 0 (before + 2 * passes + (one + two)) 0 old new
 
--- The most pages that are read of an open job, told or refused, by the job that the body names. Its shape is loaded.
+-- The most pages that are read of an open job, told or refused, by the job that the body names, and by its slots' gates. Its shape is loaded.
 pub record JobPages (s : Shape) (v : Contents) (old new : RackView) : Type 0 where
-  pub bare : ((job : Job) (passes every : ℕ) → ¬ IsJobBody s (page_at v 2) job passes every) → ReadsPages 0 1 old new
-  pub most : (job : Job) (passes every : ℕ) → IsJobBody s (page_at v 2) job passes every → ReadsPages 0 (5 + 2 * passes) old new
-  pub whole : (job : Job) (passes every : ℕ) → IsJobBody s (page_at v 2) job passes every → every ≡ loads_of s
+  pub bare : ((job : Job) (passes every : ℕ) → ¬ HasJobBody s v job passes every) → ReadsPages 0 1 old new
+  pub most : (job : Job) (passes every : ℕ) → HasJobBody s v job passes every → ReadsPages 0 (5 + 2 * passes) old new
+  pub whole : (job : Job) (passes every : ℕ) → HasJobBody s v job passes every → every ≡ loads_of s
       → ReadsPages 0 (1 + 2 * passes) old new
+  pub parts : (job : Job) (passes every one two : ℕ) → HasJobBody s v job passes every → every < loads_of s
+      → SlotReads v 0 one → SlotReads v 1 two → ReadsPages 0 (1 + 2 * passes + (one + two)) old new
 
--- The most pages that are read of the whole file, told or refused: few where a gate is closed or no job's body stands, else by the job.
+-- The most pages that are read of the whole file, told or refused: few where a gate is closed or no job's body stands, else by the job
+-- and its slots' gates.
 pub record StatePages (v : Contents) (old new : RackView) : Type 0 where
-  pub unloaded : IsClosedGate (page_at v 1) → ReadsPages 0 1 old new
-  pub idle : IsClosedGate (page_at v 3) → ReadsPages 0 3 old new
-  pub bare : ((s : Shape) (job : Job) (passes every : ℕ) → page_at v 0 ≡ load_page s → ¬ IsJobBody s (page_at v 2) job passes every)
+  pub unloaded : HasClosedLoad v → ReadsPages 0 1 old new
+  pub idle : HasClosedJob v → ReadsPages 0 3 old new
+  pub bare : ((s : Shape) (job : Job) (passes every : ℕ) → HasLoadBody s v → ¬ HasJobBody s v job passes every)
       → ReadsPages 0 4 old new
-  pub most : (s : Shape) (job : Job) (passes every : ℕ) → page_at v 0 ≡ load_page s → IsJobBody s (page_at v 2) job passes every
+  pub most : (s : Shape) (job : Job) (passes every : ℕ) → HasLoadBody s v → HasJobBody s v job passes every
       → ReadsPages 0 (8 + 2 * passes) old new
-  pub whole : (s : Shape) (job : Job) (passes every : ℕ) → page_at v 0 ≡ load_page s → IsJobBody s (page_at v 2) job passes every
+  pub whole : (s : Shape) (job : Job) (passes every : ℕ) → HasLoadBody s v → HasJobBody s v job passes every
       → every ≡ loads_of s → ReadsPages 0 (4 + 2 * passes) old new
+  pub parts : (s : Shape) (job : Job) (passes every one two : ℕ) → HasLoadBody s v → HasJobBody s v job passes every
+      → every < loads_of s → SlotReads v 0 one → SlotReads v 1 two → ReadsPages 0 (4 + 2 * passes + (one + two)) old new

@@ -1,4 +1,5 @@
 //! A page that is written and made durable.
+
 ghost use Rattle.std.specs.Prelude.{◌≡◌, ◌<◌, IsTrue, IsOk, IsErr, OnOk};
 ghost use Rattle.bm_base.specs.Contents.{page_at};
 ghost use Rattle.bm_rack.specs.RackView.{IsAttached, IsClean};

@@ -1,4 +1,5 @@
 //! Gates: commit pages, which are open or closed.
+
 ghost use Rattle.std.specs.Prelude.{◌≡◌, ◌↔◌, IsTrue};
 ghost use Rattle.bm_base.specs.Gate.{open_gate, IsOpenGate};
 

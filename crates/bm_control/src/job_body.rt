@@ -1,10 +1,11 @@
 //! The job body: what is to be done, in how many passes, and how often progress is made durable.
+
 ghost use Rattle.std.specs.Prelude.{◌≡◌, ◌↔◌, ◌≤◌, ◌++◌, ℕ, length, codes, slice_index, Some};
 ghost use Rattle.std.specs.Prelude.{IsTrue, IfSome};
 ghost use Rattle.bm_forms.specs.declared.job.Job.{Job};
 ghost use Rattle.bm_forms.specs.Job.{JobFits};
 ghost use Rattle.bm_control.specs.Bodies.{body_head, kind_of, job_map, job_version, named_loads};
-ghost use Rattle.bm_control.specs.Bodies.{job_page, JobBodyFits, IsJobBody, JobHasColumns};
+ghost use Rattle.bm_control.specs.Bodies.{job_page, JobBodyFits, IsJobBody};
 
 use crate::map_body::{end_body, put_map, read_map, start_body};
 use crate::page_reader::{same_page, u16_at, u64_at};
@@ -41,8 +42,7 @@ const WALSH: u8 = 2;
 /// durable, N/M at most.
 pub fn encode_job(shape: &Shape, job: &Job, passes: u16, every: u64) -> [u8; PAGE_BYTES]
     requires { JobBodyFits shape.now job.now passes every }
-    ensures page { result ≡ job_page shape.now job.now passes every }
-    ensures columns { JobHasColumns job.now }
+    ensures { result ≡ job_page shape.now job.now passes every }
 {
     let page = start_job_body(shape, job, version_for(shape, every), passes);
     end_body(page, named_for(shape, every))
@@ -72,7 +72,6 @@ fn start_job_body(shape: &Shape, job: &Job, version: u16, passes: u16) -> PageWr
         ≡ body_head (codes "BMMCTASK") version (kind_of job.now) shape.now.n passes
         ++ job_map job.now }
     ensures length { length result ≤ 504 }
-    ensures columns { JobHasColumns job.now }
 {
     match job {
         Job::Permute(map) => {
@@ -101,7 +100,6 @@ pub fn decode_job(shape: &Shape, page: &[u8; PAGE_BYTES]) -> Option<(Job, u16, u
 // Values that fit, as they stand in the page.
 fn read_numbers(shape: &Shape, page: &[u8; PAGE_BYTES]) -> Option<(Job, u16, u64)>
     ensures fits { IfSome result (λ r. JobBodyFits shape.now r.0 r.1 r.2) }
-    ensures columns { IfSome result (λ r. JobHasColumns r.0) }
     ensures read { (job : Job) (passes every : ℕ)
         → IsJobBody shape.now page.now job passes every → result ≡ Some (job, passes, every) }
 {
@@ -137,7 +135,6 @@ fn read_every(shape: &Shape, page: &[u8; PAGE_BYTES]) -> u64
 // A job of the shape, as it stands in the page.
 fn read_job(shape: &Shape, page: &[u8; PAGE_BYTES]) -> Option<Job>
     ensures fits { IfSome result (λ job. JobFits shape.now job) }
-    ensures columns { IfSome result (λ job. JobHasColumns job) }
     ensures read { (job : Job) (passes every : ℕ)
         → IsJobBody shape.now page.now job passes every → result ≡ Some job }
 {
@@ -158,7 +155,6 @@ fn read_job(shape: &Shape, page: &[u8; PAGE_BYTES]) -> Option<Job>
 fn read_permutation(shape: &Shape, page: &[u8; PAGE_BYTES]) -> Option<Job>
     requires { slice_index page.now 10 ≡ 1 }
     ensures fits { IfSome result (λ job. JobFits shape.now job) }
-    ensures columns { IfSome result (λ job. JobHasColumns job) }
     ensures read { (job : Job) (passes every : ℕ)
         → IsJobBody shape.now page.now job passes every → result ≡ Some job }
 {

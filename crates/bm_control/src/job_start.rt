@@ -1,4 +1,5 @@
 //! Opening a job.
+
 ghost use Rattle.std.specs.Prelude.{◌≡◌, ◌⊎◌, ◌+◌, ◌*◌, ◌<◌, ◌≤◌, ℕ, IsTrue, IsOk, IsErr, OnOk};
 ghost use Rattle.std.specs.Prelude.{length};
 ghost use Rattle.bm_base.specs.Contents.{page_at};
@@ -9,8 +10,12 @@ ghost use Rattle.bm_rack.specs.Frames.{RackCall};
 ghost use Rattle.bm_rack.specs.Calls.{IsPage};
 ghost use Rattle.bm_forms.specs.PassForm.{IsOfShape};
 ghost use Rattle.bm_forms.specs.Plan.{StandsFor};
-ghost use Rattle.bm_control.specs.Bodies.{loads_of, load_page, job_page, JobBodyFits, IsPassBody};
+ghost use Rattle.bm_base.specs.Shape.{loads_of};
+ghost use Rattle.bm_control.specs.Bodies.{JobBodyFits, IsPassBody};
 ghost use Rattle.bm_control.specs.Moments.{JobIsWritten, PassesAreWritten};
+ghost use Rattle.bm_control.specs.Pages.{HasOpenLoad, HasOpenJob, HasClosedJob, HasLoadBody};
+ghost use Rattle.bm_control.specs.Pages.{HasJobBody};
+ghost use Rattle.bm_control.specs.Pages as page;
 ghost use Rattle.bm_control.specs.PageCalls.{MakesPageCalls, IsPassPage, IsSlotGate, IsJobPage};
 ghost use Rattle.bm_control.specs.PageCalls.{IsStartPage};
 ghost use Rattle.bm_control.specs.Sound.{IsSound};
@@ -18,6 +23,7 @@ ghost use Rattle.bm_control.specs.Sound.{IsSound};
 use crate::durable::write_page_durably;
 use crate::gates::gate_page;
 use crate::job_body::encode_job;
+use crate::pages::{JOB_BODY, JOB_GATE, pass_body, pass_gate, slot_gate};
 use crate::pass_body::encode_pass;
 use bm_base::{Failed, PAGE_BYTES, Shape};
 use bm_forms::{Job, PassForm, Plan};
@@ -42,18 +48,18 @@ pub fn start_job<R: Rack>(
     ensures sound { IsTrue R.tells_stands → IsTrue R.tells_contents
         → StandsFor plan.now shape.now job.now
         → IsSound (R.view rack.old)
-        → InEveryImage (λ v. IsOpenGate (page_at v 1)) (R.view rack.old)
-        → InEveryImage (λ v. IsClosedGate (page_at v 3)) (R.view rack.old)
-        → page_at (R.view rack.old).contents 0 ≡ load_page shape.now
+        → InEveryImage HasOpenLoad (R.view rack.old)
+        → InEveryImage HasClosedJob (R.view rack.old)
+        → HasLoadBody shape.now (R.view rack.old).contents
         → IsSound (R.view rack.new) }
     // A job that is open in some image is this one.
     ensures stored { IsTrue R.tells_stands → IsTrue R.tells_contents
-        → InEveryImage (λ v. IsClosedGate (page_at v 3)) (R.view rack.old)
-        → InEveryImage (λ v. IsOpenGate (page_at v 3)
-        → page_at v 2 ≡ job_page shape.now job.now (length plan.now.forms) every) (R.view rack.new) }
+        → InEveryImage HasClosedJob (R.view rack.old)
+        → InEveryImage (λ v. HasOpenJob v
+        → HasJobBody shape.now v job.now (length plan.now.forms) every) (R.view rack.new) }
     ensures clean { OnOk result (IsClean (R.view rack.new)) }
     ensures opened { IsTrue R.tells_contents
-        → OnOk result (IsOpenGate (page_at (R.view rack.new).contents 3)) }
+        → OnOk result (HasOpenJob (R.view rack.new).contents) }
     ensures written { IsTrue R.tells_contents
         → OnOk result
         (JobIsWritten shape.now job.now plan.now.forms every (R.view rack.new).contents) }
@@ -68,7 +74,7 @@ pub fn start_job<R: Rack>(
 {
     write_job(rack, shape, job, plan, every)?;
     rack.sync()?;
-    write_page_durably(rack, 3, &gate_page())
+    write_page_durably(rack, JOB_GATE, &gate_page())
 }
 
 // Writes all pages of the job but its gate.
@@ -94,7 +100,7 @@ fn write_job<R: Rack>(
         (R.view rack.old) (R.view rack.new) }
 {
     let body = encode_job(shape, job, plan.len(), every);
-    rack.write_page(2, &body)?;
+    rack.write_page(JOB_BODY, &body)?;
     write_passes(rack, shape, plan)?;
     if every == shape.loads() {
         return Ok(());
@@ -102,7 +108,7 @@ fn write_job<R: Rack>(
     close_slots(rack)
 }
 
-// Writes the body of each pass, and closes its gate.
+// Writes the body of each pass, and closes its gate by zeros.
 fn write_passes<R: Rack>(rack: &mut R, shape: &Shape, plan: &Plan) -> Result<(), Failed>
     requires ready { IsAttached (R.view rack.old).attached }
     requires shape { plan.now.shape ≡ shape.now }
@@ -121,34 +127,34 @@ fn write_passes<R: Rack>(rack: &mut R, shape: &Shape, plan: &Plan) -> Result<(),
     Ok(())
 }
 
-// Writes the body of pass k + 1, and closes its gate.
+// Writes the body of pass k + 1, and closes its gate by zeros.
 fn write_pass<R: Rack>(rack: &mut R, shape: &Shape, pass: &PassForm, k: u16) -> Result<(), Failed>
     requires ready { IsAttached (R.view rack.old).attached }
     requires shape { IsOfShape shape.now pass.now }
     requires number { k < 254 }
     ensures body { IsTrue R.tells_contents → IsOk result
-        → IsPassBody shape.now k (page_at (R.view rack.new).contents (4 + 2 * k)) pass.now }
+        → IsPassBody shape.now k (page_at (R.view rack.new).contents (page.pass_body k)) pass.now }
     ensures gate { IsTrue R.tells_contents → IsOk result
-        → IsClosedGate (page_at (R.view rack.new).contents (5 + 2 * k)) }
-    ensures call { RackCall (λ u. IsPage (4 + 2 * k) u ⊎ IsPage (5 + 2 * k) u) (IsErr result)
+        → page.IsZeroPage (page_at (R.view rack.new).contents (page.pass_gate k)) }
+    ensures call { RackCall (λ u. IsPage (page.pass_body k) u ⊎ IsPage (page.pass_gate k) u) (IsErr result)
         (R.view rack.old) (R.view rack.new) }
     ensures counts { MakesPageCalls (IsOk result) 2 0 (R.view rack.old) (R.view rack.new) }
 {
     let body = encode_pass(shape, pass, k);
-    rack.write_page(4 + 2 * k, &body)?;
-    rack.write_page(5 + 2 * k, &[0; PAGE_BYTES])
+    rack.write_page(pass_body(k), &body)?;
+    rack.write_page(pass_gate(k), &[0; PAGE_BYTES])
 }
 
-// Closes the gates of both slots.
+// Closes the gates of both slots by zeros.
 fn close_slots<R: Rack>(rack: &mut R) -> Result<(), Failed>
     requires { IsAttached (R.view rack.old).attached }
     ensures first { IsTrue R.tells_contents → IsOk result
-        → IsClosedGate (page_at (R.view rack.new).contents 513) }
+        → page.IsZeroPage (page_at (R.view rack.new).contents (page.slot_gate 0)) }
     ensures second { IsTrue R.tells_contents → IsOk result
-        → IsClosedGate (page_at (R.view rack.new).contents 515) }
+        → page.IsZeroPage (page_at (R.view rack.new).contents (page.slot_gate 1)) }
     ensures call { RackCall IsSlotGate (IsErr result) (R.view rack.old) (R.view rack.new) }
     ensures counts { MakesPageCalls (IsOk result) 2 0 (R.view rack.old) (R.view rack.new) }
 {
-    rack.write_page(513, &[0; PAGE_BYTES])?;
-    rack.write_page(515, &[0; PAGE_BYTES])
+    rack.write_page(slot_gate(0), &[0; PAGE_BYTES])?;
+    rack.write_page(slot_gate(1), &[0; PAGE_BYTES])
 }

@@ -1,4 +1,5 @@
 //! The load body: the shape of the records that are loaded.
+
 ghost use Rattle.std.specs.Prelude.{◌≡◌, ◌↔◌, Some};
 ghost use Rattle.bm_base.specs.declared.shape.Shape.{Shape};
 ghost use Rattle.bm_control.specs.Bodies.{load_page};

@@ -1,9 +1,10 @@
 //! Bodies with a map: their first bytes, the map, and their last number.
+
 ghost use Rattle.std.specs.Prelude.{◌≡◌, ℕ, ◌+◌, ◌*◌, ◌^◌, ◌<◌, ◌≤◌, List, ◌++◌, length, drop};
 ghost use Rattle.std.specs.Prelude.{slice_index, Some, IfSome, IfNone};
 ghost use Rattle.bm_gf2.specs.declared.affine.Affine.{Affine};
 ghost use Rattle.bm_control.specs.Bodies.{padded, u64_bytes, u64_in, body_head, column_bytes};
-ghost use Rattle.bm_control.specs.Bodies.{map_bytes, map_page, HasColumns};
+ghost use Rattle.bm_control.specs.Bodies.{map_bytes, map_page};
 
 use crate::page_reader::u64_at;
 use crate::page_writer::PageWriter;
@@ -41,7 +42,6 @@ pub fn put_map(page: &mut PageWriter, map: &Affine)
     requires { length page.old ≤ 16 }
     ensures bytes { page.new ≡ page.old ++ map_bytes map.now }
     ensures length { length page.new ≤ length page.old + 424 }
-    ensures columns { HasColumns map.now }
 {
     page.put_u64(map.c);
     put_columns(page, &map.a.cols, map.a.n);
@@ -53,7 +53,6 @@ fn put_columns(page: &mut PageWriter, cols: &[u64; MOST_COLUMNS], count: u8)
     requires count { count ≤ 52 }
     ensures bytes { page.new ≡ page.old ++ column_bytes cols.now count }
     ensures length { length page.new ≡ length page.old + 8 * count }
-    ensures long { length cols.now ≡ 52 }
 {
     for j in 0..count {
         page.put_u64(cols[usize::from(j)]);
@@ -97,10 +96,8 @@ pub fn read_map(page: &[u8; PAGE_BYTES], n: u8) -> Option<Affine>
     requires some { 1 ≤ n }
     requires few { n ≤ 52 }
     ensures size { IfSome result (λ f. f.a.n ≡ n) }
-    ensures columns { IfSome result (λ f. HasColumns f) }
-    ensures read { (head : List ℕ) (f : Affine) (last : ℕ) → length head ≡ 16 → HasColumns f
-        → f.a.n ≡ n
-        → page.now ≡ map_page head (map_bytes f) last → result ≡ Some f }
+    ensures read { (head : List ℕ) (f : Affine) (last : ℕ) → length head ≡ 16
+        → f.a.n ≡ n → page.now ≡ map_page head (map_bytes f) last → result ≡ Some f }
 {
     let c = u64_at(page, CONSTANT_AT);
     if c >> n != 0 {

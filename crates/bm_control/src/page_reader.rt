@@ -1,4 +1,5 @@
 //! Numbers in a page.
+
 ghost use Rattle.std.specs.Prelude.{◌≡◌, ◌≤◌, ◌↔◌, drop, IsTrue};
 ghost use Rattle.bm_control.specs.Bodies.{u16_in, u64_in};
 

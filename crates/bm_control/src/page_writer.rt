@@ -1,4 +1,5 @@
 //! A page that is filled from its front.
+
 ghost use Rattle.std.specs.Prelude.{◌≡◌, ◌+◌, ◌≤◌, [], ◌++◌, length};
 ghost use Rattle.bm_control.specs.Bodies.{padded, u16_bytes, u64_bytes};
 

@@ -1,16 +1,14 @@
 //! Part bodies: how far the pass under way is.
+
 ghost use Rattle.std.specs.Prelude.{◌≡◌, ◌↔◌, ℕ, Some, IsTrue};
 ghost use Rattle.bm_control.specs.Bodies.{part_page, PartBodyFits, IsPartBody};
 
 use crate::page_reader::{same_page, u16_at, u64_at};
 use crate::page_writer::PageWriter;
-use bm_base::{PAGE_BYTES, Shape};
+use bm_base::{MOST_CHECKPOINT_PASSES, PAGE_BYTES, Shape};
 
 /// The part body's version.
 const VERSION: u16 = 2;
-
-/// The most passes that have parts.
-const MOST_PASSES: u16 = 254;
 
 /// The part body of so many loads of this pass, counted from 1. The pass is at most 254, and the
 /// loads are below N/M.
@@ -49,5 +47,5 @@ pub fn decode_part(shape: &Shape, page: &[u8; PAGE_BYTES]) -> Option<(u16, u64)>
 fn are_in_range(shape: &Shape, pass: u16, loads: u64) -> bool
     ensures { IsTrue result ↔ PartBodyFits shape.now pass loads }
 {
-    pass >= 1 && pass <= MOST_PASSES && loads >= 1 && loads < shape.loads()
+    pass >= 1 && pass <= MOST_CHECKPOINT_PASSES && loads >= 1 && loads < shape.loads()
 }

@@ -1,27 +1,24 @@
 //! Pass bodies: what each pass does.
+
 ghost use Rattle.std.specs.Prelude.{◌≡◌, ◌<◌, ◌≤◌, Some, IfSome, MatchOption, IsSomeAnd, IsTrue};
 ghost use Rattle.std.specs.Prelude.{◌↔◌, ◌≢◌, ℕ};
 ghost use Rattle.bm_forms.specs.declared.pass_form.PassForm.{PassForm};
 ghost use Rattle.bm_forms.specs.PassForm.{IsOfShape};
-ghost use Rattle.bm_control.specs.Bodies.{pass_page, IsPassBody, HasColumns};
+ghost use Rattle.bm_control.specs.Bodies.{pass_page, IsPassBody};
 
 use crate::map_body::{end_body, put_map, read_map, start_body};
 use crate::page_reader::same_page;
-use bm_base::{PAGE_BYTES, Shape};
+use bm_base::{MOST_PASSES, PAGE_BYTES, Shape};
 use bm_forms::{MldForm, PassForm};
 
 /// The pass body's version.
 const VERSION: u16 = 1;
 
-/// The most passes that a body can number.
-const MOST_PASSES: u16 = 256;
-
 /// The body of pass k + 1, for k below 256.
 pub fn encode_pass(shape: &Shape, pass: &PassForm, k: u16) -> [u8; PAGE_BYTES]
     requires shape { IsOfShape shape.now pass.now }
     requires number { k < 256 }
-    ensures page { result ≡ pass_page shape.now pass.now k }
-    ensures columns { HasColumns pass.now.map.map }
+    ensures { result ≡ pass_page shape.now pass.now k }
 {
     let mut page = start_body(b"BMMCPASS", VERSION, pass.low, shape.n(), k + 1);
     put_map(&mut page, pass.map.affine());
@@ -56,7 +53,6 @@ fn may_be_low(shape: &Shape, low: u8) -> bool
 // A pass of the shape, as it stands in the page.
 fn read_pass_form(shape: &Shape, page: &[u8; PAGE_BYTES]) -> Option<PassForm>
     ensures shape { IfSome result (λ pass. IsOfShape shape.now pass) }
-    ensures columns { IfSome result (λ pass. HasColumns pass.map.map) }
     ensures read { (pass : PassForm) (k : ℕ) → IsPassBody shape.now k page.now pass
         → IsSomeAnd result (λ found. (found.low ≡ pass.low) × (found.map.map ≡ pass.map.map)) }
 {

@@ -1,4 +1,5 @@
 //! Reading the pages of the passes.
+
 ghost use Rattle.std.specs.Prelude.{◌≡◌, ◌<◌, ◌≤◌, ◌+◌, ◌*◌, ℕ, IsTrue, IsOk, IfOk, IsErrOf};
 ghost use Rattle.bm_base.specs.Contents.{Contents};
 ghost use Rattle.bm_rack.specs.RackView.{IsAttached};
@@ -7,6 +8,7 @@ ghost use Rattle.bm_control.specs.PageCalls.{MakesPageCalls};
 ghost use Rattle.bm_control.specs.State.{PassAnswer, PassesAnswer};
 
 use crate::gates::is_gate;
+use crate::pages::{pass_body, pass_gate};
 use crate::pass_body::decode_pass;
 use crate::state::{ControlError, page_of};
 use bm_base::Shape;
@@ -32,16 +34,16 @@ fn read_pass_pages<R: Rack>(
     ensures cause { HasCause (IsErrOf result ControlError.Failed)
         (R.view rack.old) (R.view rack.new) }
 {
-    let body = page_of(rack, 4 + 2 * k)?;
+    let body = page_of(rack, pass_body(k))?;
     let Some(_) = decode_pass(shape, k, &body) else {
-        return Err(ControlError::BadPage { page: 4 + 2 * k });
+        return Err(ControlError::BadPage { page: pass_body(k) });
     };
-    let gate = page_of(rack, 5 + 2 * k)?;
+    let gate = page_of(rack, pass_gate(k))?;
     if !is_gate(&gate) {
         return Ok(done);
     }
     if done < k {
-        return Err(ControlError::BadPage { page: 5 + 2 * k });
+        return Err(ControlError::BadPage { page: pass_gate(k) });
     }
     Ok(k + 1)
 }

@@ -1,21 +1,20 @@
 //! Reading the slots, which count loads of the pass under way.
+
 ghost use Rattle.std.specs.Prelude.{◌≡◌, ◌<◌, ◌≤◌, ◌+◌, ℕ, IsTrue, IsOk, IfOk, IfSome, IsErrOf};
 ghost use Rattle.bm_base.specs.Contents.{Contents};
 ghost use Rattle.bm_rack.specs.RackView.{IsAttached};
 ghost use Rattle.bm_rack.specs.Frames.{SameState, Keeps, HasCause};
-ghost use Rattle.bm_control.specs.Bodies.{loads_of};
+ghost use Rattle.bm_base.specs.Shape.{loads_of};
 ghost use Rattle.bm_control.specs.PageCalls.{MakesPageCalls, ReadsPages};
 ghost use Rattle.bm_control.specs.State.{SlotAnswer, SlotsAnswer, CountedOf, CountFits, PartFits};
 ghost use Rattle.bm_control.specs.StateCalls.{SlotReads};
 
 use crate::gates::is_gate;
+use crate::pages::{slot_body, slot_gate};
 use crate::part_body::decode_part;
 use crate::state::{ControlError, page_of};
-use bm_base::Shape;
+use bm_base::{NO_SLOT, Shape};
 use bm_rack::Rack;
-
-/// The slot that is told where none is counted.
-pub const NO_SLOT: u8 = 2;
 
 // Reads a slot, 0 or 1, of a job with so many passes of which so many are done. The answer is the
 // number of loads that it counts of the pass under way, if it does.
@@ -42,24 +41,24 @@ fn read_slot<R: Rack>(
     ensures cause { HasCause (IsErrOf result ControlError.Failed)
         (R.view rack.old) (R.view rack.new) }
 {
-    let gate = page_of(rack, 513 + 2 * u16::from(slot))?;
+    let gate = page_of(rack, slot_gate(slot))?;
     if !is_gate(&gate) {
         return Ok(None);
     }
-    let body = page_of(rack, 512 + 2 * u16::from(slot))?;
+    let body = page_of(rack, slot_body(slot))?;
     let Some((pass, loads)) = decode_part(shape, &body) else {
         return Err(ControlError::BadPage {
-            page: 512 + 2 * u16::from(slot),
+            page: slot_body(slot),
         });
     };
     if pass > passes {
         return Err(ControlError::BadPage {
-            page: 512 + 2 * u16::from(slot),
+            page: slot_body(slot),
         });
     }
     if pass > done + 1 {
         return Err(ControlError::BadPage {
-            page: 512 + 2 * u16::from(slot),
+            page: slot_body(slot),
         });
     }
     if pass <= done {

@@ -1,4 +1,5 @@
 //! What the control file tells.
+
 ghost use Rattle.std.specs.Prelude.{◌≡◌, ◌<◌, ◌≤◌, ◌+◌, ◌*◌, ℕ, IsTrue, IfOk, IsErrOf, IsOkUnless};
 ghost use Rattle.bm_base.specs.Contents.{Contents, page_at};
 ghost use Rattle.bm_rack.specs.RackView.{IsAttached};

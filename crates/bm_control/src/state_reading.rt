@@ -1,11 +1,15 @@
 //! Reading the control file.
+
 ghost use Rattle.std.specs.Prelude.{◌≡◌, ◌<◌, ◌≤◌, ◌+◌, ◌*◌, ℕ, IsTrue, IsOk, IfOk, IsErrOf};
 ghost use Rattle.bm_base.specs.Contents.{Contents, page_at};
 ghost use Rattle.bm_forms.specs.PassForm.{IsOfShape};
 ghost use Rattle.bm_rack.specs.RackView.{IsAttached};
 ghost use Rattle.bm_rack.specs.Frames.{SameState, Keeps, HasCause, RaisesCounts};
-ghost use Rattle.bm_control.specs.Bodies.{loads_of, IsPassBody};
+ghost use Rattle.bm_base.specs.Shape.{loads_of};
+ghost use Rattle.bm_control.specs.Bodies.{IsPassBody};
 ghost use Rattle.bm_control.specs.PageCalls.{MakesPageCalls, ReadsPages};
+ghost use Rattle.bm_control.specs.Pages as page;
+ghost use Rattle.bm_control.specs.Sound.{IsSound};
 ghost use Rattle.bm_control.specs.State.{StateAnswer, StateFits, JobAnswer, PartFits};
 ghost use Rattle.bm_control.specs.State.{ProgressAnswer, PassBodyAnswer};
 ghost use Rattle.bm_control.specs.StateCalls.{StateCalls, StatePages, JobCalls, JobPages};
@@ -14,6 +18,7 @@ ghost use Rattle.bm_control.specs.StateCalls.{SlotCalls, SlotReads};
 use crate::gates::is_gate;
 use crate::job_body::decode_job;
 use crate::load_body::decode_load;
+use crate::pages::{JOB_BODY, JOB_GATE, LOAD_BODY, LOAD_GATE, pass_body};
 use crate::pass_body::decode_pass;
 use crate::pass_pages::read_passes;
 use crate::slots::read_slots;
@@ -24,13 +29,16 @@ use bm_rack::Rack;
 
 /// Reads what the control file tells, and changes nothing but counts.
 ///
-/// It reads page 1, where it is open pages 0 and 3, where 3 is open page 2 and the pages of each
-/// pass in order, and where the job has slots 513 and 515, each followed by its body where it is
-/// open. The first page that is wrong is the answer.
+/// It reads the load gate, where it is open the load body and the job gate, where that is open the
+/// job body and the pages of each pass in order, and where the job has slots the gate of each,
+/// followed by its body where it is open. The first page that is wrong is the answer. On a sound
+/// rack no page is.
 pub fn read_state<R: Rack>(rack: &mut R) -> Result<SlateState, ControlError>
     requires { IsAttached (R.view rack.old).attached }
     ensures answer { IsTrue R.tells_contents → StateAnswer (R.view rack.old).contents result }
     ensures fits { IfOk result StateFits }
+    ensures good { IsTrue R.tells_stands → IsTrue R.tells_contents → IsSound (R.view rack.old)
+        → (page : ℕ) → ¬ IsErrOf result (ControlError.BadPage page) }
     ensures state { SameState (R.view rack.old) (R.view rack.new) }
     ensures counts { StateCalls result (R.view rack.old) (R.view rack.new) }
     ensures pages { IsTrue R.tells_contents
@@ -42,15 +50,15 @@ pub fn read_state<R: Rack>(rack: &mut R) -> Result<SlateState, ControlError>
     ensures cause { HasCause (IsErrOf result ControlError.Failed)
         (R.view rack.old) (R.view rack.new) }
 {
-    let load_gate = page_of(rack, 1)?;
+    let load_gate = page_of(rack, LOAD_GATE)?;
     if !is_gate(&load_gate) {
         return Ok(SlateState::Closed);
     }
-    let load_body = page_of(rack, 0)?;
+    let load_body = page_of(rack, LOAD_BODY)?;
     let Some(shape) = decode_load(&load_body) else {
-        return Err(ControlError::BadPage { page: 0 });
+        return Err(ControlError::BadPage { page: LOAD_BODY });
     };
-    let job_gate = page_of(rack, 3)?;
+    let job_gate = page_of(rack, JOB_GATE)?;
     if !is_gate(&job_gate) {
         return Ok(SlateState::Loaded { shape });
     }
@@ -73,9 +81,9 @@ fn read_job_state<R: Rack>(rack: &mut R, shape: &Shape) -> Result<SlateState, Co
     ensures cause { HasCause (IsErrOf result ControlError.Failed)
         (R.view rack.old) (R.view rack.new) }
 {
-    let body = page_of(rack, 2)?;
+    let body = page_of(rack, JOB_BODY)?;
     let Some(found) = decode_job(shape, &body) else {
-        return Err(ControlError::BadPage { page: 2 });
+        return Err(ControlError::BadPage { page: JOB_BODY });
     };
     let (job, passes, every) = found;
     let (done, part, slot) = read_progress(rack, shape, passes, every)?;
@@ -131,7 +139,7 @@ pub fn read_pass<R: Rack>(rack: &mut R, shape: &Shape, k: u16) -> Result<PassFor
     requires ready { IsAttached (R.view rack.old).attached }
     requires number { k < 256 }
     ensures answer { IsTrue R.tells_contents
-        → PassBodyAnswer shape.now k (page_at (R.view rack.old).contents (4 + 2 * k)) result }
+        → PassBodyAnswer shape.now k (page_at (R.view rack.old).contents (page.pass_body k)) result }
     ensures of_shape { IfOk result (λ pass. IsOfShape shape.now pass) }
     ensures state { SameState (R.view rack.old) (R.view rack.new) }
     ensures counts { RaisesCounts 0 1 0 (R.view rack.old) (R.view rack.new) }
@@ -139,9 +147,9 @@ pub fn read_pass<R: Rack>(rack: &mut R, shape: &Shape, k: u16) -> Result<PassFor
     ensures cause { HasCause (IsErrOf result ControlError.Failed)
         (R.view rack.old) (R.view rack.new) }
 {
-    let body = page_of(rack, 4 + 2 * k)?;
+    let body = page_of(rack, pass_body(k))?;
     match decode_pass(shape, k, &body) {
         Some(pass) => Ok(pass),
-        None => Err(ControlError::BadPage { page: 4 + 2 * k }),
+        None => Err(ControlError::BadPage { page: pass_body(k) }),
     }
 }

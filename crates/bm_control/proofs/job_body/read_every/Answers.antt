@@ -1,6 +1,6 @@
 use Rattle.std.proofs.Common.{inl, inr, sym, ◌∙◌, arith}
 use Rattle.std.proofs.lemmas.Bool.{cases_eq}
-use Rattle.bm_control.specs.Bodies.{loads_of}
+use Rattle.bm_base.specs.Shape.{loads_of}
 use Rattle.bm_control.proofs.JobBodyLemmas.{job_numbers, version_whole, version_parts, named_parts}
 use Rattle.bm_control.proofs.job_body.read_every.Goals as goal
 

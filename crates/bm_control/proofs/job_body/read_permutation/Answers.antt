@@ -5,7 +5,7 @@ use Rattle.bm_gf2.specs.Matrix.{IsNonsingular}
 use Rattle.bm_gf2.specs.Kernel.{IsLeastKernel}
 use Rattle.bm_forms.specs.declared.job.Job.{Job}
 use Rattle.bm_forms.specs.declared.job.Job.TheVariants.{Permute, Walsh}
-use Rattle.bm_control.specs.Bodies.{body_head, map_bytes, map_page, job_version, named_loads, job_page, HasColumns, IsJobBody}
+use Rattle.bm_control.specs.Bodies.{body_head, map_bytes, map_page, job_version, named_loads, job_page, IsJobBody}
 use Rattle.bm_control.proofs.BodyLemmas.{length-body_head}
 use Rattle.bm_control.proofs.EqualLemmas.{some_injective, none_some}
 use Rattle.bm_control.proofs.JobBodyLemmas.{job_numbers}
@@ -13,7 +13,7 @@ use Rattle.bm_control.proofs.job_body.read_permutation.Goals as goal
 
 -- what is read of the maps of bodies, for one page
 abbrev Reads : ℕ → List ℕ → (Affine → Type 0) → Type 0
-Reads n page P = (head : List ℕ) (f : Affine) (last : ℕ) → length head ≡ 16 → HasColumns f → f.a.n ≡ n → page ≡ map_page head (map_bytes f) last → P f
+Reads n page P = (head : List ℕ) (f : Affine) (last : ℕ) → length head ≡ 16 → f.a.n ≡ n → page ≡ map_page head (map_bytes f) last → P f
 
 -- of a job body it is the permutation's map
 read_of : (s : Shape) (page : List ℕ) (job : Job) (passes every : ℕ) (P : Affine → Type 0) → IsJobBody s page job passes every
@@ -25,7 +25,7 @@ read_of s page (Permute f) passes every P body kind reads = (
   refl,
   body.fits.fits.1,
   reads (body_head (codes "BMMCTASK") (job_version s every) 1 s.n passes) f (named_loads s every)
-      (length-body_head (codes "BMMCTASK") (job_version s every) 1 s.n passes refl) body.columns body.fits.fits.0 body.page_is,
+      (length-body_head (codes "BMMCTASK") (job_version s every) 1 s.n passes refl) body.fits.fits.0 body.page_is,
 )
 read_of s page Walsh passes every P body kind reads =
     let numbers = job_numbers s page Walsh passes every body in
@@ -42,17 +42,17 @@ not_both g f x same nonsingular kernel =
 pub returns-in_err-map-clause-read : goal.returns-in_err-map-clause-read
 returns-in_err-map-clause-read c job passes every body =
     let found = read_of c.args.shape.now c.args.page.now job passes every (λ f. None ≡ Some f) body c.requires
-    (λ head f last long columns n page. c.in_err-map.ensures.read head f last long columns (n ∙ sym c.n.ensures) page) in
+    (λ head f last long n page. c.in_err-map.ensures.read head f last long (n ∙ sym c.n.ensures) page) in
     absurd (none_some found.0 found.3)
 
 pub returns-in-None-clause-read : goal.returns-in-None-clause-read
 returns-in-None-clause-read c job passes every body =
     let found = read_of c.args.shape.now c.args.page.now job passes every (λ f. Some c.in_ok-map.map ≡ Some f) body c.requires
-    (λ head f last long columns n page. c.in_ok-map.ensures.read head f last long columns (n ∙ sym c.n.ensures) page) in
+    (λ head f last long n page. c.in_ok-map.ensures.read head f last long (n ∙ sym c.n.ensures) page) in
     ap (λ (f : Affine). Some (Permute f)) (some_injective c.in_ok-map.map found.0 found.3) ∙ ap Some (sym found.1)
 
 pub returns-in-Some-clause-read : goal.returns-in-Some-clause-read
 returns-in-Some-clause-read c job passes every body =
     let found = read_of c.args.shape.now c.args.page.now job passes every (λ f. Some c.in_ok-map.map ≡ Some f) body c.requires
-    (λ head f last long columns n page. c.in_ok-map.ensures.read head f last long columns (n ∙ sym c.n.ensures) page) in
+    (λ head f last long n page. c.in_ok-map.ensures.read head f last long (n ∙ sym c.n.ensures) page) in
     absurd (not_both c.in_ok-map.map found.0 c.in-Some.field-0 (some_injective c.in_ok-map.map found.0 found.3) found.2 c.in-Some.ensures)

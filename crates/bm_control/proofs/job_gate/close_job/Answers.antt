@@ -1,6 +1,3 @@
-use Rattle.std.proofs.lemmas.Result.{on_ok_weaker}
-use Rattle.bm_base.specs.Contents.{page_at}
-use Rattle.bm_control.proofs.ImageLemmas.{zeros_closed}
 use Rattle.bm_control.proofs.SoundLemmas.{sound_closing_job}
 use Rattle.bm_control.proofs.job_gate.close_job.Goals as goal
 
@@ -10,8 +7,3 @@ returns-clause-sound g c told_stands told_contents sound clean gate =
     let dims = c.requires.0 in
     let stands = fits.attached told_stands dims c.requires.1 in
     sound_closing_job _ _ dims stands (fits.sizes told_stands told_contents dims stands) sound gate c.write_page_durably.ensures.call.frame
-
-pub returns-clause-closed : goal.returns-clause-closed
-returns-clause-closed g c told =
-    on_ok_weaker c.write_page_durably.result (zeros_closed (page_at (g.R.Rack.view c.write_page_durably.new.rack).contents 3))
-    (c.write_page_durably.ensures.taken told)

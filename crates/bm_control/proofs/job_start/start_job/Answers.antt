@@ -1,11 +1,13 @@
-use Rattle.std.proofs.Common.{◌≡◌, ◌<◌, length, refl, sym, ◌∙◌, subst, arith}
+use Rattle.std.proofs.Common.{◌≡◌, ◌<◌, ℕ, List, length, refl, sym, subst, arith}
 use Rattle.std.proofs.lemmas.Result.{on_ok_weaker}
 use Rattle.bm_base.specs.Contents.{page_at}
 use Rattle.bm_base.specs.Gate.{IsClosedGate}
-use Rattle.bm_base.specs.Shape.{dims_of}
+use Rattle.bm_base.specs.Shape.{dims_of, loads_of}
 use Rattle.bm_rack.proofs.FrameLemmas.{DirtiesOnly-wider, DirtiesOnly-trans, DirtiesOnly-synced, Keeps-trans, HasCause-later}
-use Rattle.bm_control.specs.Bodies.{loads_of}
+use Rattle.bm_control.specs.Bodies.{IsJobBody}
 use Rattle.bm_control.specs.Moments.{JobIsWritten}
+use Rattle.bm_control.specs.Pages.{job_body, job_gate}
+use Rattle.bm_control.specs.Pages.{job_body, job_gate}
 use Rattle.bm_control.specs.PageCalls.{IsJobPage, IsStartPage}
 use Rattle.bm_control.proofs.ImageLemmas.{closed_settled, settled_in_image, image_of_clean}
 use Rattle.bm_control.proofs.StartLemmas.{loaded_stands, loaded_start, loaded_within, loaded_sound, job_gate_within, sound_started}
@@ -27,9 +29,9 @@ returns-in_err-write_job-clause-stored g c told_stands told_contents closed dims
     let fits = g.met.R.Rack.consistent c.args.rack.now in
     let at = c.requires.ready.0 in
     let here = fits.attached told_stands at c.requires.ready.1 in
-    absurd (settled_in_image IsClosedGate 3 _ dims image (job_gate_within (length c.args.plan.now.forms) (c.args.every < loads_of s) _ _
+    absurd (settled_in_image IsClosedGate job_gate _ dims image (job_gate_within (length c.args.plan.now.forms) (c.args.every < loads_of s) _ _
     c.write_job.ensures.call.frame
-    (closed_settled _ at 3 (omega arith) here (fits.sizes told_stands told_contents at here) closed)) i gate)
+    (closed_settled _ at job_gate (omega arith) here (fits.sizes told_stands told_contents at here) closed)) i gate)
 
 pub returns-in_err-sync-clause-sound : goal.returns-in_err-sync-clause-sound
 returns-in_err-sync-clause-sound g c told_stands told_contents does sound opened closed body =
@@ -48,10 +50,10 @@ returns-in_err-sync-clause-stored g c told_stands told_contents closed dims imag
     let fits = g.met.R.Rack.consistent c.args.rack.now in
     let at = c.requires.ready.0 in
     let here = fits.attached told_stands at c.requires.ready.1 in
-    absurd (settled_in_image IsClosedGate 3 _ dims image (job_gate_within (length c.args.plan.now.forms) (c.args.every < loads_of s) _ _
+    absurd (settled_in_image IsClosedGate job_gate _ dims image (job_gate_within (length c.args.plan.now.forms) (c.args.every < loads_of s) _ _
     (DirtiesOnly-trans (IsJobPage (length c.args.plan.now.forms) (c.args.every < loads_of s)) _ _ _ c.write_job.ensures.call.frame
     (DirtiesOnly-synced _ _ _ _ c.sync.ensures.synced))
-    (closed_settled _ at 3 (omega arith) here (fits.sizes told_stands told_contents at here) closed)) i gate)
+    (closed_settled _ at job_gate (omega arith) here (fits.sizes told_stands told_contents at here) closed)) i gate)
 
 pub returns-clause-sound : goal.returns-clause-sound
 returns-clause-sound g c told_stands told_contents does sound opened closed body =
@@ -75,13 +77,14 @@ returns-clause-stored g c told_stands told_contents closed dims image stands i g
     let s = c.args.shape.now in
     let written = subst (JobIsWritten s c.args.job.now c.args.plan.now.forms c.args.every) (sym c.sync.ensures.synced.contents)
     (c.in_ok-write_job.ensures.written told_contents refl) in
-    (image_of_clean 3 _ _ dims image (c.in_ok-sync.ensures.synced.clean refl) c.write_page_durably.ensures.call.frame i).pages 2
-    (λ e. omega (arith, e)) ∙ written.body.page_is
+    subst (λ (p : List ℕ). IsJobBody s p c.args.job.now (length c.args.plan.now.forms) c.args.every)
+    (sym ((image_of_clean job_gate _ _ dims image (c.in_ok-sync.ensures.synced.clean refl) c.write_page_durably.ensures.call.frame i).pages job_body
+    (λ e. omega (arith, e)))) written.body
 
 pub returns-clause-written : goal.returns-clause-written
 returns-clause-written g c told =
     on_ok_weaker c.write_page_durably.result
-    (λ (taken : page_at (g.R.Rack.view c.write_page_durably.new.rack).contents 3 ≡ c.gate_page.result).
+    (λ (taken : page_at (g.R.Rack.view c.write_page_durably.new.rack).contents job_gate ≡ c.gate_page.result).
     job_written_kept c.args.shape.now c.args.job.now c.args.plan.now.forms c.args.every _ _ c.write_page_durably.ensures.call.frame
     (subst (JobIsWritten c.args.shape.now c.args.job.now c.args.plan.now.forms c.args.every) (sym c.sync.ensures.synced.contents)
     (c.in_ok-write_job.ensures.written told refl)))

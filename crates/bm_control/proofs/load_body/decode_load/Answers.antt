@@ -2,7 +2,8 @@ use Rattle.std.proofs.Common.{Some, ap, sym, ◌∙◌}
 use Rattle.std.proofs.lemmas.Bool.{false≢true}
 use Rattle.bm_control.specs.Bodies.{load_page}
 use Rattle.bm_control.proofs.BodyLemmas.{load_numbers}
-use Rattle.bm_control.proofs.EqualLemmas.{shape_equal, broken_rule-kept, some_injective, none_some, one_outcome}
+use Rattle.bm_base.proofs.EqualLemmas.{shape_equal, broken_rule-kept}
+use Rattle.bm_control.proofs.EqualLemmas.{some_injective, none_some, one_outcome}
 use Rattle.bm_control.proofs.load_body.decode_load.Goals as goal
 
 pub returns-in_default : goal.returns-in_default

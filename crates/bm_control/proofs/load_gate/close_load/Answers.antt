@@ -1,6 +1,3 @@
-use Rattle.std.proofs.lemmas.Result.{on_ok_weaker}
-use Rattle.bm_base.specs.Contents.{page_at}
-use Rattle.bm_control.proofs.ImageLemmas.{zeros_closed}
 use Rattle.bm_control.proofs.SoundLemmas.{sound_closing_load}
 use Rattle.bm_control.proofs.load_gate.close_load.Goals as goal
 
@@ -9,8 +6,3 @@ returns-clause-sound g c told_stands told_contents sound clean gate shut =
     let fits = g.met.R.Rack.consistent c.args.rack.now in
     let dims = c.requires.0 in
     sound_closing_load _ _ dims (fits.attached told_stands dims c.requires.1) sound clean gate shut c.write_page_durably.ensures.call.frame
-
-pub returns-clause-closed : goal.returns-clause-closed
-returns-clause-closed g c told =
-    on_ok_weaker c.write_page_durably.result (zeros_closed (page_at (g.R.Rack.view c.write_page_durably.new.rack).contents 1))
-    (c.write_page_durably.ensures.taken told)

@@ -28,19 +28,19 @@ returns-then-not-may_be_low-clause-read c pass k body =
 pub returns-in_err-map-clause-read : goal.returns-in_err-map-clause-read
 returns-in_err-map-clause-read c pass k body =
     let found = pass_map c.args.shape.now k c.args.page.now pass body in
-    absurd (none_some pass.map.map (c.in_err-map.ensures.read found.0 pass.map.map 0 found.1 body.columns
+    absurd (none_some pass.map.map (c.in_err-map.ensures.read found.0 pass.map.map 0 found.1
     (body.of_shape.addresses ∙ sym c.n.ensures) found.2))
 
 pub returns-in-Ok-clause-read : goal.returns-in-Ok-clause-read
 returns-in-Ok-clause-read c pass k body =
     let found = pass_map c.args.shape.now k c.args.page.now pass body in
-    let same = some_injective c.in_ok-map.map pass.map.map (c.in_ok-map.ensures.read found.0 pass.map.map 0 found.1 body.columns
+    let same = some_injective c.in_ok-map.map pass.map.map (c.in_ok-map.ensures.read found.0 pass.map.map 0 found.1
     (body.of_shape.addresses ∙ sym c.n.ensures) found.2) in
     (pass_low c.args.shape.now k c.args.page.now pass body.page_is, c.in-Ok.ensures.form.0 ∙ same)
 
 pub returns-in-Err-clause-read : goal.returns-in-Err-clause-read
 returns-in-Err-clause-read c pass k body =
     let found = pass_map c.args.shape.now k c.args.page.now pass body in
-    let same = some_injective c.in_ok-map.map pass.map.map (c.in_ok-map.ensures.read found.0 pass.map.map 0 found.1 body.columns
+    let same = some_injective c.in_ok-map.map pass.map.map (c.in_ok-map.ensures.read found.0 pass.map.map 0 found.1
     (body.of_shape.addresses ∙ sym c.n.ensures) found.2) in
     false≢true (c.in-Err.ensures.exact.1 (mld_of c.args.shape.now pass c.in_ok-map.map body.of_shape.block body.of_shape.memory same))

@@ -1,12 +1,13 @@
-use Rattle.std.proofs.Common.{inl, inr, List, ℕ, refl, sym, ◌∙◌, subst, arith}
+use Rattle.std.proofs.Common.{inl, inr, List, ℕ, refl, sym, ap, ◌∙◌, subst, arith}
+use Rattle.bm_base.specs.Contents.{page_at}
 use Rattle.bm_control.specs.Bodies.{IsPassBody}
 use Rattle.bm_control.proofs.EqualLemmas.{one_outcome}
 use Rattle.bm_control.proofs.pass_pages.read_pass_pages.Goals as goal
 
 pub returns-then-not-is_gate-clause-answer : goal.returns-then-not-is_gate-clause-answer
 returns-then-not-is_gate-clause-answer g c told v at =
-    let body = c.in_ok-body.ensures.bytes told v at in
-    let gate = c.in_ok-gate.ensures.bytes told v (c.page_of.ensures.state.contents ∙ at) in
+    let body = c.in_ok-body.ensures.bytes told v at ∙ ap (page_at v) c.pass_body.ensures in
+    let gate = c.in_ok-gate.ensures.bytes told v (c.page_of.ensures.state.contents ∙ at) ∙ ap (page_at v) c.pass_gate.ensures in
     record {
       body = record {
         pass = c.in-Some.field-0;
@@ -18,8 +19,8 @@ returns-then-not-is_gate-clause-answer g c told v at =
 
 pub returns-then-done-k-clause-answer : goal.returns-then-done-k-clause-answer
 returns-then-done-k-clause-answer g c told v at =
-    let body = c.in_ok-body.ensures.bytes told v at in
-    let gate = c.in_ok-gate.ensures.bytes told v (c.page_of.ensures.state.contents ∙ at) in
+    let body = c.in_ok-body.ensures.bytes told v at ∙ ap (page_at v) c.pass_body.ensures in
+    let gate = c.in_ok-gate.ensures.bytes told v (c.page_of.ensures.state.contents ∙ at) ∙ ap (page_at v) c.pass_gate.ensures in
     inr (
       record {
         pass = c.in-Some.field-0;
@@ -28,13 +29,13 @@ returns-then-done-k-clause-answer g c told v at =
       },
       c.if-done-k.true,
       sym gate ∙ c.is_gate.ensures.0 c.if-not-is_gate.false,
-      refl,
+      c.pass_gate-then-done-k.ensures,
     )
 
 pub returns-clause-answer : goal.returns-clause-answer
 returns-clause-answer g c told v at =
-    let body = c.in_ok-body.ensures.bytes told v at in
-    let gate = c.in_ok-gate.ensures.bytes told v (c.page_of.ensures.state.contents ∙ at) in
+    let body = c.in_ok-body.ensures.bytes told v at ∙ ap (page_at v) c.pass_body.ensures in
+    let gate = c.in_ok-gate.ensures.bytes told v (c.page_of.ensures.state.contents ∙ at) ∙ ap (page_at v) c.pass_gate.ensures in
     let few = c.requires.done in
     record {
       body = record {

@@ -1,6 +1,6 @@
 use Rattle.std.proofs.Common.{◌<◌, ◌+◌, Result, ℕ, refl, sym, ◌∙◌, subst, arith}
 use Rattle.bm_control.specs.declared.state.ControlError.{ControlError}
-use Rattle.bm_control.specs.Bodies.{loads_of}
+use Rattle.bm_base.specs.Shape.{loads_of}
 use Rattle.bm_control.specs.State.{SlotsAnswer}
 use Rattle.bm_control.proofs.EqualLemmas.{error_is, error_fails}
 use Rattle.bm_control.proofs.PageCallLemmas.{later, early}

@@ -50,6 +50,9 @@ returns-in_err-done-clause-pages g c told v at =
     c.page_of.ensures.counts c.read_progress.ensures.counts (omega arith))
     (λ all. reads_pages _ (2 * c.in-Some.found.1) (1 + 2 * c.in-Some.found.1) _ _ _ (g.met.R.Rack.consistent c.args.rack.now) (omega arith)
     c.page_of.ensures.counts (c.in_err-done.ensures.whole all))
+    (λ less one two first second. reads_pages _ (2 * c.in-Some.found.1 + (one + two)) (1 + 2 * c.in-Some.found.1 + (one + two)) _ _ _
+    (g.met.R.Rack.consistent c.args.rack.now) (omega arith) c.page_of.ensures.counts
+    (c.in_err-done.ensures.gates told v (c.page_of.ensures.state.contents ∙ at) less one two first second))
 
 pub returns-clause-answer : goal.returns-clause-answer
 returns-clause-answer g c told v at =
@@ -77,6 +80,9 @@ returns-clause-pages g c told v at =
     c.page_of.ensures.counts c.read_progress.ensures.counts (omega arith))
     (λ all. reads_pages _ (2 * c.in-Some.found.1) (1 + 2 * c.in-Some.found.1) _ _ _ (g.met.R.Rack.consistent c.args.rack.now) (omega arith)
     c.page_of.ensures.counts (c.in_ok-done.ensures.whole all))
+    (λ less one two first second. reads_pages _ (2 * c.in-Some.found.1 + (one + two)) (1 + 2 * c.in-Some.found.1 + (one + two)) _ _ _
+    (g.met.R.Rack.consistent c.args.rack.now) (omega arith) c.page_of.ensures.counts
+    (c.in_ok-done.ensures.gates told v (c.page_of.ensures.state.contents ∙ at) less one two first second))
 
 pub returns-clause-slots : goal.returns-clause-slots
 returns-clause-slots g c told v at less one two first second =

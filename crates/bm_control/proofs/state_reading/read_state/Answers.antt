@@ -1,8 +1,10 @@
-use Rattle.std.proofs.Common.{refl, sym, ◌∙◌, arith}
+use Rattle.std.proofs.Common.{inl, refl, sym, ◌∙◌, arith}
 use Rattle.bm_rack.proofs.FrameLemmas.{RaisesCounts-trans}
 use Rattle.bm_control.proofs.EqualLemmas.{some_injective}
 use Rattle.bm_control.proofs.StateCallLemmas.{reads_within, first_pages, job_state_pages, slots_later}
+use Rattle.bm_control.specs.Pages.{load_body}
 use Rattle.bm_control.proofs.StateLemmas.{state_of_job}
+use Rattle.bm_control.proofs.WrongPageLemmas.{sound_no_bad, sound_no_bad_answer}
 use Rattle.bm_control.proofs.state_reading.read_state.Goals as goal
 
 pub returns-clause-answer : goal.returns-clause-answer
@@ -17,6 +19,28 @@ returns-clause-answer g c told =
       job_gate = sym (c.in_ok-job_gate.ensures.bytes told v at_3) ∙ c.is_gate-2.ensures.0 c.if-not-is_gate-2.false;
     })
     (c.read_job_state.ensures.answer told v (c.page_of-3.ensures.state.contents ∙ at_3))
+
+pub returns-in_default-clause-good : goal.returns-in_default-clause-good
+returns-in_default-clause-good g c told_stands told_contents sound page is =
+    let v = g.R.Rack.view c.args.rack.now in
+    let fits = g.met.R.Rack.consistent c.args.rack.now in
+    let dims = c.requires.0 in
+    let stands = fits.attached told_stands dims c.requires.1 in
+    sound_no_bad dims v load_body stands (fits.sizes told_stands told_contents dims stands) sound
+    (inl (
+      refl,
+      sym (c.in_ok-load_gate.ensures.bytes told_contents v.contents refl) ∙ c.is_gate.ensures.0 c.if-not-is_gate.false,
+      λ s body. c.in_default.not-Some s ((c.decode_load.ensures s).1
+          (c.in_ok-load_body.ensures.bytes told_contents v.contents c.page_of.ensures.state.contents ∙ body)),
+    ))
+
+pub returns-clause-good : goal.returns-clause-good
+returns-clause-good g c told_stands told_contents sound page is =
+    let fits = g.met.R.Rack.consistent c.args.rack.now in
+    let dims = c.requires.0 in
+    let stands = fits.attached told_stands dims c.requires.1 in
+    sound_no_bad_answer dims (g.R.Rack.view c.args.rack.now) c.read_job_state.result page stands (fits.sizes told_stands told_contents dims stands) sound
+    (returns-clause-answer g c told_contents) is
 
 pub returns-in_err-load_body-clause-pages : goal.returns-in_err-load_body-clause-pages
 returns-in_err-load_body-clause-pages g c told =
