@@ -1,7 +1,6 @@
 -- The areas that passes read and write.
-use Rattle.std.proofs.Common.{◌≡◌, ◌≢◌, inl, inr, ℕ, ◌+◌, ◌%◌, ◌==◌, true, false, refl, sym, ◌∙◌, subst, arith}
-use Rattle.std.proofs.lemmas.Bool.{cases_eq}
-use Rattle.std.proofs.lemmas.Bool.Decides.{nat_tests}
+use Rattle.std.proofs.Common.{◌≡◌, ◌≢◌, inl, inr, ℕ, ◌+◌, ◌%◌, refl, sym, ◌∙◌, subst, arith}
+use Rattle.std.proofs.lemmas.Bool.{cases_eq, eq-eqb, ne_eqb}
 use Rattle.bm_base.specs.declared.shape.Shape.{Shape}
 use Rattle.bm_base.specs.declared.area.Area.TheVariants.{Input, One, Two}
 use Rattle.bm_base.specs.Area.{area_after}
@@ -10,22 +9,15 @@ use Rattle.bm_base.specs.Shape.{dims_of}
 use Rattle.bm_rack.specs.Image.{IsInputUnit}
 use Rattle.bm_stripe.specs.Units.{IsAreaUnit}
 
--- tests that say yes and no
-yes : (a b : ℕ) → a ≡ b → (a == b) ≡ true
-yes a b h = grind (arith, nat_tests)
-
-no_test : (a b : ℕ) → a ≢ b → (a == b) ≡ false
-no_test a b h = grind (arith, nat_tests)
-
 -- after no pass, after an odd number of passes, and after an even one
 area_none : area_after 0 ≡ Input
 area_none = refl
 
 area_odd : (i : ℕ) → i % 2 ≡ 1 → area_after i ≡ One
-area_odd i odd = rw (no_test i 0 (λ e. omega (arith, e, odd)), yes (i % 2) 1 odd) refl
+area_odd i odd = rw (ne_eqb i 0 (λ e. omega (arith, e, odd)), eq-eqb (i % 2) 1 odd) refl
 
 area_even : (i : ℕ) → i ≢ 0 → i % 2 ≢ 1 → area_after i ≡ Two
-area_even i some even = rw (no_test i 0 some, no_test (i % 2) 1 even) refl
+area_even i some even = rw (ne_eqb i 0 some, ne_eqb (i % 2) 1 even) refl
 
 one_input : ¬ (One ≡ Input)
 one_input e = cc

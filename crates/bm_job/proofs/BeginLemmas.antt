@@ -6,9 +6,8 @@ use Rattle.bm_base.specs.declared.dims.Dims.{Dims}
 use Rattle.bm_base.specs.declared.shape.Shape.{Shape}
 use Rattle.bm_base.specs.Area.{area_after}
 use Rattle.bm_base.specs.Contents.{Contents, RackUnit, block_unit, page_unit, page_at, HasSizes}
-use Rattle.bm_base.specs.Gate.{IsOpenGate, IsClosedGate}
 use Rattle.bm_base.specs.Records.{record_at}
-use Rattle.bm_base.specs.Shape.{dims_of}
+use Rattle.bm_base.specs.Shape.{dims_of, loads_of}
 use Rattle.bm_gf2.specs.Affine.{affine_image}
 use Rattle.bm_forms.specs.declared.job.Job.{Job}
 use Rattle.bm_forms.specs.declared.pass_form.PassForm.{PassForm}
@@ -20,28 +19,31 @@ use Rattle.bm_rack.specs.Frames.{DirtiesOnly, RaisesCounts}
 use Rattle.bm_rack.proofs.FrameLemmas.{raised-zero}
 use Rattle.bm_pass.proofs.PassLemmas.{image_below_records}
 use Rattle.bm_control.specs.declared.state.SlateState.{SlateState}
-use Rattle.bm_control.specs.declared.state.SlateState.TheVariants.{Loaded}
+use Rattle.bm_control.specs.declared.state.SlateState.TheVariants.{Closed, Loaded, Working}
 use Rattle.bm_control.specs.declared.state.ControlError.{ControlError}
 use Rattle.bm_control.specs.declared.state.ControlError.TheVariants as control
-use Rattle.bm_control.specs.Bodies.{loads_of, IsJobBody}
-use Rattle.bm_control.specs.Consistent.{slot_body, input_of, GatesAre, LoadsMoved, SlotStands, JobStands, IsConsistent}
+use Rattle.bm_control.specs.Consistent.{BodiesAre, input_of, LoadsMoved, SlotStands, JobStands}
 use Rattle.bm_control.specs.Moments.{JobIsWritten}
+use Rattle.bm_control.specs.Pages.{load_body, load_gate, slot_body, HasOpenJob, HasJobBody}
 use Rattle.bm_control.specs.PageCalls.{IsStartPage, MakesPageCalls, ReadsPages}
 use Rattle.bm_control.specs.Progress.{IsGone}
 use Rattle.bm_control.specs.Sound.{IsSound}
-use Rattle.bm_control.specs.State.{StateAnswer, HasPart, IsBadAt, IsBadSlotPage, IsBadProgress, IsBadJobPage, IsFirstBad}
-use Rattle.bm_control.specs.StateCalls.{StatePages}
+use Rattle.bm_control.specs.State.{StateAnswer, StateFits, HasPassBody, IsFirstBad}
+use Rattle.bm_control.specs.StateCalls.{StateCalls, StatePages}
+use Rattle.bm_control.proofs.StateCallLemmas.{reads_within}
 use Rattle.bm_control.proofs.EqualLemmas.{one_outcome, error_is, none_some}
+use Rattle.bm_control.proofs.ImageLemmas.{zeros_closed}
+use Rattle.bm_control.proofs.JobBodyLemmas.{limit-most}
+use Rattle.bm_control.proofs.JobStandsLemmas.{element}
 use Rattle.bm_control.proofs.StateLemmas.{part_unique}
 use Rattle.bm_job.specs.declared.answers.RunError.{RunError}
 use Rattle.bm_job.specs.declared.answers.RunError.TheVariants as run
 use Rattle.bm_job.specs.declared.machine.Machine.{Machine}
 use Rattle.bm_job.specs.Errors.{run_error}
 use Rattle.bm_job.specs.Follows.{AreMoved, IsHeld, Follows, loads_moved}
-use Rattle.bm_job.specs.Begins.{IsLoadedAlone, LookAnswer, LookCounts, LookPages, ResumeAnswer, BeginAnswer, BeginCalls, IsFresh, IsStart, state_of}
+use Rattle.bm_job.specs.Begins.{IsLoadedAlone, SettledAnswer, SettledPages, ResumeAnswer, BeginAnswer, IsFresh, state_of}
 use Rattle.bm_job.proofs.HeldLemmas.{stands_at}
-use Rattle.bm_job.proofs.StepLemmas.{element, moved_by, moved_none, next_passed}
-use Rattle.bm_job.proofs.UniqueLemmas.{passes_unique, every_unique, done_unique}
+use Rattle.bm_job.proofs.StepLemmas.{moved_by, moved_none, next_passed}
 
 -- a test of a fact said no
 pub not_same : (test : Bool) (fact : Type 0) → (fact → IsTrue test) → test ≡ false → ¬ fact
@@ -63,41 +65,48 @@ start_apart passes k parts h (inr (inr (inr is))) = elim is.1 [
 
 -- a job that was opened
 pub started_held : (s : Shape) (job : Job) (forms : List PassForm) (passes every : ℕ) (old new : RackView) → passes ≡ length forms → old.attached ≡ Some (dims_of s)
-    → IsLoadedAlone s old.contents → DirtiesOnly (IsStartPage (length forms) (every < loads_of s)) old new → IsClean new → IsOpenGate (page_at new.contents 3)
+    → IsLoadedAlone s old.contents → DirtiesOnly (IsStartPage (length forms) (every < loads_of s)) old new → IsClean new → HasOpenJob new.contents
     → JobIsWritten s job forms every new.contents → IsSound new → IsHeld s job passes 0 every 0 2 new
 started_held s job forms passes every old new count attached loaded w clean gate written sound = record {
   sound = sound;
   attached = w.attached ∙ attached;
   outside = λ u not. clean u;
   durable = λ form next x below. clean _;
-  load_body = w.contents (page_unit 0) (start_apart (length forms) 0 (every < loads_of s) (omega arith)) ∙ loaded.load_body;
-  load_gate = w.contents (page_unit 1) (start_apart (length forms) 1 (every < loads_of s) (omega arith)) ∙ loaded.load_gate;
+  load_body = w.contents (page_unit load_body) (start_apart (length forms) load_body (every < loads_of s) (omega arith)) ∙ loaded.load_body;
+  load_gate = w.contents (page_unit load_gate) (start_apart (length forms) load_gate (every < loads_of s) (omega arith)) ∙ loaded.load_gate;
   job_gate = gate;
-  body = subst (λ (p : ℕ). IsJobBody s (page_at new.contents 2) job p every) (sym count) written.body;
+  body = subst (λ (p : ℕ). HasJobBody s new.contents job p every) (sym count) written.body;
   gates = record {
     few = omega arith;
     opened = λ k h. absurd (omega (arith, h));
-    closed = λ k from h. written.gates k (omega (arith, h, count));
+    closed = λ k from h. zeros_closed _ (written.gates k (omega (arith, h, count)));
   };
   counted = record {
     none = λ whole. refl;
     range = omega arith;
     nothing = λ is. refl;
     counts = λ less. absurd (omega (arith, less));
-    most = λ less other loads h c. absurd (written.slots less other h c.opened);
+    most = λ less other loads h c. absurd (zeros_closed _ (written.slots less other h) c.opened);
     first = λ is. absurd (omega (arith, is));
   };
 }
 
+-- its passes have bodies
+pub started_bodies : (s : Shape) (forms : List PassForm) (passes : ℕ) (v : Contents) → passes ≡ length forms → BodiesAre s v forms → (k : ℕ) → k < passes
+    → HasPassBody s v k
+started_bodies s forms passes v count bodies k below =
+    let found = element forms k (omega (arith, below, count)) in
+    record { pass = found.0; body = bodies k found.0 found.1 }
+
 -- a refusal of the control file as one of a begin
-error_told : (v : Contents) (e : ControlError) → StateAnswer v (Err e) → LookAnswer v (Err (run_error e))
+error_told : (v : Contents) (e : ControlError) → StateAnswer v (Err e) → SettledAnswer v (Err (run_error e))
 error_told v control.Failed answer = tt
 error_told v (control.BadPage page) answer = answer
 
-pub look_error : (v w : Contents) (e : ControlError) (r : Result SlateState RunError) → w ≡ v → IsErrAnd r (λ made. made ≡ run_error e) → StateAnswer w (Err e)
-    → LookAnswer v r
-look_error v w e r same is answer =
-    subst (LookAnswer v) (sym (error_is r (run_error e) is)) (error_told v e (subst (λ (c : Contents). StateAnswer c (Err e)) same answer))
+pub settled_error : (v w : Contents) (e : ControlError) (r : Result SlateState RunError) → w ≡ v → IsErrAnd r (λ made. made ≡ run_error e) → StateAnswer w (Err e)
+    → SettledAnswer v r
+settled_error v w e r same is answer =
+    subst (SettledAnswer v) (sym (error_is r (run_error e) is)) (error_told v e (subst (λ (c : Contents). StateAnswer c (Err e)) same answer))
 
 -- a sync and pages read after it
 pub sync_read : {tells_stands tells_contents : Bool} (most pages : ℕ) (a b c : RackView) → IsWellFormed tells_stands tells_contents a → RaisesCounts 0 0 1 a b
@@ -114,99 +123,31 @@ sync_read most pages a b c well x y few =
       syncs_high = omega (arith, x.syncs, y.syncs);
     }
 
-pub look_pages : {tells_stands tells_contents : Bool} (v w : Contents) (a b c : RackView) → w ≡ v → IsWellFormed tells_stands tells_contents a
-    → RaisesCounts 0 0 1 a b → StatePages w b c → LookPages v a c
-look_pages v w a b c same well x z =
+pub settled_pages : {tells_stands tells_contents : Bool} (v w : Contents) (a b c : RackView) → w ≡ v → IsWellFormed tells_stands tells_contents a
+    → RaisesCounts 0 0 1 a b → StatePages w b c → SettledPages v a c
+settled_pages v w a b c same well x z =
     let y = subst (λ (d : Contents). StatePages d b c) same z in record {
       idle = λ closed. sync_read 3 3 a b c well x (y.idle closed) (omega arith);
       bare = λ none. sync_read 4 4 a b c well x (y.bare none) (omega arith);
       most = λ s job p every load body. sync_read (8 + 2 * p) (8 + 2 * p) a b c well x (y.most s job p every load body) (omega arith);
     }
 
--- more calls may be made
-pub calls_wider : (p s p' s' : ℕ) (a b : RackView) → p ≤ p' → s ≤ s' → MakesPageCalls ⊥ p s a b → MakesPageCalls ⊥ p' s' a b
-calls_wider p s p' s' a b pages syncs x = record {
-  done = λ e. absurd e;
-  moves = x.moves;
-  pages_low = x.pages_low;
-  pages_high = omega (arith, x.pages_high, pages);
-  syncs_low = x.syncs_low;
-  syncs_high = omega (arith, x.syncs_high, syncs);
-}
+-- the most pages that are read, whatever is told
+state_most : {tells_stands tells_contents : Bool} (r : Result SlateState ControlError) (old new : RackView) → IsWellFormed tells_stands tells_contents old
+    → IfOk r StateFits → StateCalls r old new → ReadsPages 0 516 old new
+state_most (Ok Closed) old new well fits x = reads_within 1 516 old new well (omega arith) x
+state_most (Ok (Loaded s)) old new well fits x = reads_within 3 516 old new well (omega arith) x
+state_most (Ok (Working s job passes done every part slot)) old new well fits (x, whole) =
+    let few = limit-most s job in
+    let less = fits.body.passes_few in
+    let low = x.low in
+    let high = x.high in
+    record { moves = x.moves; syncs = x.syncs; low = omega (arith, low); high = omega (arith, high, few, less) }
+state_most (Err e) old new well fits x = x
 
--- calls after others
-pub calls_then : (p s p' s' p'' s'' : ℕ) (a b c : RackView) → p + p' ≤ p'' → s + s' ≤ s'' → MakesPageCalls ⊥ p s a b → MakesPageCalls ⊥ p' s' b c → MakesPageCalls ⊥ p'' s'' a c
-calls_then p s p' s' p'' s'' a b c pages syncs x y = record {
-  done = λ e. absurd e;
-  moves = y.moves ∙ x.moves;
-  pages_low = omega (arith, x.pages_low, y.pages_low);
-  pages_high = omega (arith, x.pages_high, y.pages_high, pages);
-  syncs_low = omega (arith, x.syncs_low, y.syncs_low);
-  syncs_high = omega (arith, x.syncs_high, y.syncs_high, syncs);
-}
-
--- the calls of a begin that starts nothing
-pub begin_looked : (v : Contents) (passes : ℕ) (a b : RackView) → LookPages v a b → BeginCalls v passes a b
-begin_looked v passes a b x = record {
-  none = λ closed. calls_wider 3 1 (7 + 2 * passes) 3 a b (omega arith) (omega arith) (x.idle closed);
-  bare = λ none. calls_wider 4 1 (7 + 2 * passes) 3 a b (omega arith) (omega arith) (x.bare none);
-  opened = λ gate s job p every load body. x.most s job p every load body;
-}
-
--- and of one that starts a job
-pub begin_started : (v : Contents) (passes : ℕ) (a b c : RackView) → IsClosedGate (page_at v 3) → LookPages v a b → MakesPageCalls ⊥ (4 + 2 * passes) 2 b c
-    → BeginCalls v passes a c
-begin_started v passes a b c closed x y = record {
-  none = λ _. all;
-  bare = λ _. all;
-  opened = λ gate. absurd (closed gate);
-}
-  where
-    all : MakesPageCalls ⊥ (7 + 2 * passes) 3 a c
-    all = calls_then 3 1 (4 + 2 * passes) 2 (7 + 2 * passes) 3 a b c (omega arith) (omega arith) (x.idle closed) y
-
--- a slot of consistent contents has a body
-has_part : (s : Shape) (v : Contents) (j : JobStands s v) (passes done slot : ℕ) → length j.forms ≡ passes → j.done ≡ done → SlotStands s v j.forms j.done slot
-    → HasPart s v passes done slot
-has_part s v j passes done slot count now t =
-    let known = t.known in
-    let soon = t.soon in
-    record { pass = t.pass; loads = t.loads; body = t.body; known = omega (arith, known, count); soon = omega (arith, soon, now) }
-
--- no page of a pass is wrong
-no_bad_at : (s : Shape) (v : Contents) (j : JobStands s v) (k done page : ℕ) → k < length j.forms → GatesAre v k done → ¬ IsBadAt s v k done page
-no_bad_at s v j k done page below gates (inl bad) = (let next = element j.forms k below in bad.1 next.0 (j.bodies k next.0 next.1))
-no_bad_at s v j k done page below gates (inr bad) = elim (cases_lt k j.done) [
-  | inl less ↦ (let late = bad.1 in gates.closed done (omega arith) late (j.gates.opened done (omega (arith, late, less))))
-  | inr more ↦ j.gates.closed k more below bad.2
-]
-
--- nor one of a slot
-no_bad_slot : (s : Shape) (v : Contents) (j : JobStands s v) (passes done page : ℕ) → length j.forms ≡ passes → j.done ≡ done → j.every < loads_of s
-    → ¬ IsBadSlotPage s v passes done page
-no_bad_slot s v j passes done page count now less (inl bad) = bad.1.1 (has_part s v j passes done 0 count now (j.slots less 0 (omega arith) bad.1.0))
-no_bad_slot s v j passes done page count now less (inr bad) = bad.1.1 (has_part s v j passes done 1 count now (j.slots less 1 (omega arith) bad.1.0))
-
-no_bad_job : (s : Shape) (v : Contents) (j : JobStands s v) (page : ℕ) → ¬ IsBadJobPage s v page
-no_bad_job s v j page (inl bad) = bad.1 j.job (length j.forms) j.every j.body
-no_bad_job s v j page (inr b) =
-    let count : length j.forms ≡ b.passes = passes_unique s (page_at v 2) j.job b.job (length j.forms) b.passes j.every b.every j.body b.body in
-    let same : j.every ≡ b.every = every_unique s (page_at v 2) j.job b.job (length j.forms) b.passes j.every b.every j.body b.body in
-    behind b.passes b.every count same b.bad
-  where
-    behind : (passes every : ℕ) → length j.forms ≡ passes → j.every ≡ every → ¬ IsBadProgress s v passes every page
-    behind passes every count same (inl bad) =
-        (let below = bad.below in no_bad_at s v j bad.k bad.done page (omega (arith, below, count)) bad.before.gates bad.bad)
-    behind passes every count same (inr bad) =
-        let less = bad.0 in
-        let done = bad.1.0 in
-        no_bad_slot s v j passes done page count (done_unique v passes j.done done (subst (λ (p : ℕ). GatesAre v p j.done) count j.gates) bad.1.1.gates)
-        (omega (arith, less, same)) bad.1.2
-
--- consistent contents have no wrong page
-pub no_bad_page : (dims : Dims) (v : Contents) (page : ℕ) → IsConsistent dims v → ¬ IsFirstBad v page
-no_bad_page dims v page c (inl bad) = (let l = c.loaded bad.1 in bad.2 l.shape l.body)
-no_bad_page dims v page c (inr bad) = no_bad_job bad.0 v (c.job bad.1.job_gate bad.0 bad.1.load_body) page bad.2
+pub settled_most : {tells_stands tells_contents : Bool} (r : Result SlateState ControlError) (a b c : RackView) → IsWellFormed tells_stands tells_contents a
+    → IsWellFormed tells_stands tells_contents b → RaisesCounts 0 0 1 a b → IfOk r StateFits → StateCalls r b c → MakesPageCalls ⊥ 516 1 a c
+settled_most r a b c well then x fits y = sync_read 516 516 a b c well x (state_most r b c then fits y) (omega arith)
 
 -- the loads that an open slot counts of the pass under way are moved
 slot_moved : (s : Shape) (v : Contents) (j : JobStands s v) (slot part : ℕ) (t : SlotStands s v j.forms j.done slot) → t.pass ≡ j.done + 1 → t.loads ≡ part
@@ -293,14 +234,15 @@ resumed_gone s job m v fresh told = inr (record {
   sum = ap (λ (l : ℕ). m.done * loads_of m.shape + l) fresh.load;
 })
 
--- a refusal of a wrong page names the first one
-err_injective : {T E : Type 0} (e f : E) → ◌≡◌ {A = Result T E} (Err e) (Err f) → e ≡ f
+-- the same refusal is of the same error
+pub err_injective : {T E : Type 0} (e f : E) → ◌≡◌ {A = Result T E} (Err e) (Err f) → e ≡ f
 err_injective e f is = cc
 
+-- a refusal of a wrong page names the first one
 pub bad_of : {T : Type 0} (v : Contents) (e : RunError) (r : Result T RunError) (page : ℕ) → IsErrAnd r (λ made. made ≡ e) → r ≡ Err (run.BadPage page)
-    → LookAnswer v (Err e) → IsFirstBad v page
+    → SettledAnswer v (Err e) → IsFirstBad v page
 bad_of v e r page is bad answer =
-    subst (λ (x : RunError). LookAnswer v (Err x)) (err_injective e (run.BadPage page) (sym (error_is r e is) ∙ bad)) answer
+    subst (λ (x : RunError). SettledAnswer v (Err x)) (err_injective e (run.BadPage page) (sym (error_is r e is) ∙ bad)) answer
 
 -- why a job can't be gone on with
 refused : (s : Shape) (job : Job) (passes every : ℕ) (v : Contents) (state : SlateState) (e : RunError) → StateAnswer v (Ok state) → ResumeAnswer s job state (Err e)
@@ -337,17 +279,6 @@ alone_of s v told = record { load_gate = told.0; load_body = told.1; job_gate = 
 pub kept_unless : {T : Type 0} (r : Result T RunError) (P : Type 0) → IsOkUnless r run.Failed → IfErr r (λ e. e ≢ run.Failed → P)
 kept_unless (Ok x) P failed = tt
 kept_unless (Err e) P failed = λ other. absurd (other failed)
-
--- the calls of a begin that opened a job, by the machine
-pub counts_started : (passes every : ℕ) (a b c : RackView) (r : Result Machine RunError) → MakesPageCalls ⊥ 3 1 a b → MakesPageCalls ⊥ (4 + 2 * passes) 2 b c
-    → IfOk r (λ m. IsStart passes every m) → IfOk r (λ m. MakesPageCalls ⊥ (8 + 2 * m.passes) 3 a c)
-counts_started passes every a b c (Ok m) x y start =
-    let same = start.passes_are in
-    calls_then 3 1 (4 + 2 * passes) 2 (8 + 2 * m.passes) 3 a b c (omega (arith, same)) (omega arith) x y
-counts_started passes every a b c (Err e) x y start = tt
-
-pub counts_loaded : (s : Shape) (state : SlateState) (a b : RackView) → state ≡ Loaded s → LookCounts state a b → MakesPageCalls ⊥ 3 1 a b
-counts_loaded s state a b is x = subst (λ (t : SlateState). LookCounts t a b) is x
 
 -- a start leaves the input
 pub start_input : (passes : ℕ) (parts : Type 0) (dims : Dims) (old new : RackView) → DirtiesOnly (IsStartPage passes parts) old new → SameInput dims old new

@@ -1,12 +1,10 @@
 -- Calls of a rack as those of a turn.
-use Rattle.std.proofs.Common.{◌≡◌, ℕ, ◌+◌, Bool, Result, Ok, Err, IsOk, subst, arith}
-use Rattle.bm_base.specs.declared.fault.Failed.{Failed}
+use Rattle.std.proofs.Common.{◌≡◌, ℕ, ◌+◌, Bool, Result, Ok, Err, subst, arith}
 use Rattle.bm_base.specs.Contents.{RackUnit}
 use Rattle.bm_rack.specs.RackView.{RackView, IsWellFormed}
-use Rattle.bm_rack.specs.Frames.{SameState, DirtiesOnly, Keeps, HasCause, RaisesCounts, MakesMoves, RackCall}
+use Rattle.bm_rack.specs.Frames.{SameState, DirtiesOnly, Keeps, HasCause, RaisesCounts, MovesRows, RackCall, MakesCalls}
 use Rattle.bm_rack.proofs.FrameLemmas.{ChangesOnly-same, DirtiesOnly-wider, DirtiesOnly-changes, DirtiesOnly-trans, Keeps-trans, HasCause-later}
 use Rattle.bm_control.specs.PageCalls.{MakesPageCalls, IsSlotPage}
-use Rattle.bm_job.specs.Turns.{MakesCalls}
 
 -- an answer is no refusal
 pub no_refusal : {T E : Type 0} (x : T) (e : E) → ¬ (◌≡◌ {A = Result T E} (Ok x) (Err e))
@@ -44,9 +42,10 @@ pub quiet : (a b : RackView) → SameState a b → DirtiesOnly (λ u. ⊥) a b
 quiet a b s = DirtiesOnly-changes (λ u. ⊥) a b (ChangesOnly-same (λ u. ⊥) a b s)
 
 -- a turn that ended while its load was moved
-pub calls_failed : {tells_stands tells_contents : Bool} {T : Type 0} (succeeds : Type 0) (rows read pages syncs : ℕ) (a b c : RackView) (result : Result T Failed)
-    → IsWellFormed tells_stands tells_contents a → ¬ succeeds → RaisesCounts 0 read 0 a b → MakesMoves rows b c result → MakesCalls succeeds rows (read + pages) syncs a c
-calls_failed succeeds rows read pages syncs a b c result well fails x y =
+pub calls_failed : {tells_stands tells_contents : Bool} (succeeds finished : Type 0) (rows read pages syncs : ℕ) (a b c : RackView)
+    → IsWellFormed tells_stands tells_contents a → ¬ succeeds → RaisesCounts 0 read 0 a b → MovesRows rows finished b c
+    → MakesCalls succeeds rows (read + pages) syncs a c
+calls_failed succeeds finished rows read pages syncs a b c well fails x y =
     let fm = well.moves in
     let fp = well.pages in
     let fs = well.syncs in
@@ -61,14 +60,14 @@ calls_failed succeeds rows read pages syncs a b c result well fails x y =
     }
 
 -- a turn whose load was moved
-pub calls_all : {tells_stands tells_contents : Bool} {T : Type 0} (succeeds : Type 0) (rows read pages syncs : ℕ) (a b c d : RackView) (result : Result T Failed)
-    → IsWellFormed tells_stands tells_contents a → IsOk result → RaisesCounts 0 read 0 a b → MakesMoves rows b c result → MakesPageCalls ⊥ pages syncs c d
-    → MakesCalls succeeds rows (read + pages) syncs a d
-calls_all succeeds rows read pages syncs a b c d result well ok x y z =
+pub calls_all : {tells_stands tells_contents : Bool} (succeeds finished : Type 0) (rows read pages syncs : ℕ) (a b c d : RackView)
+    → IsWellFormed tells_stands tells_contents a → finished → RaisesCounts 0 read 0 a b → MovesRows rows finished b c
+    → MakesPageCalls ⊥ pages syncs c d → MakesCalls succeeds rows (read + pages) syncs a d
+calls_all succeeds finished rows read pages syncs a b c d well all x y z =
     let fm = well.moves in
     let fp = well.pages in
     let fs = well.syncs in
-    let made = (y.done ok).moves in
+    let made = y.done all in
     record {
       done = λ _. (let e = z.moves in omega (arith, x.moves, made, e, fm));
       moves_low = (let e = z.moves in omega (arith, x.moves, y.low, e, fm));

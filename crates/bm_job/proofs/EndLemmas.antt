@@ -1,8 +1,6 @@
 -- What stands after a run, and what it answers.
-use Rattle.std.proofs.Common.{Ok, Err, ◌≡◌, ◌≢◌, inl, inr, ℕ, ◌+◌, ◌-◌, ◌*◌, ◌%◌, ◌^◌, ◌<◌, ◌≤◌, List, length, replicate, slice_index, Some, refl, sym, ◌∙◌, ap, subst, arith}
-use Rattle.std.proofs.lemmas.Bool.{cases_lt}
+use Rattle.std.proofs.Common.{Ok, Err, ◌≡◌, ◌≢◌, inl, inr, ℕ, ◌*◌, ◌%◌, ◌^◌, ◌<◌, ◌≤◌, List, length, replicate, slice_index, Some, refl, sym, ◌∙◌, ap, subst, arith}
 use Rattle.std.proofs.lemmas.List.{length-replicate}
-use Rattle.std.proofs.Math.Nat.{mul-le-mul_left}
 use Rattle.std.specs.Fork.{slice_chunk}
 use Rattle.bm_base.specs.declared.dims.Dims.{Dims}
 use Rattle.bm_base.specs.declared.report.RunReport.{RunReport}
@@ -11,12 +9,11 @@ use Rattle.bm_base.specs.declared.area.Area.TheVariants.{Input}
 use Rattle.bm_base.specs.Area.{area_after}
 use Rattle.bm_base.specs.Contents.{Contents, RackUnit, block_unit, page_unit, page_at, HasSizes}
 use Rattle.bm_base.specs.Count.{raised}
-use Rattle.bm_base.specs.Gate.{IsOpenGate, IsClosedGate}
 use Rattle.bm_base.specs.Records.{SameRecords, record_at}
-use Rattle.bm_base.specs.Shape.{dims_of, stripes, load_stripes}
+use Rattle.bm_base.specs.Shape.{dims_of, stripes}
 use Rattle.bm_forms.specs.declared.job.Job.{Job}
 use Rattle.bm_forms.specs.declared.job.Job.TheVariants.{Permute, Walsh}
-use Rattle.bm_forms.specs.Job.{meaning, HasBits, JobFits}
+use Rattle.bm_forms.specs.Job.{meaning, HasBits}
 use Rattle.bm_forms.specs.PassLimit.{limit_of}
 use Rattle.bm_forms.proofs.JobLemmas.{meaning-same}
 use Rattle.bm_rack.specs.RackView.{RackView}
@@ -26,10 +23,10 @@ use Rattle.bm_stripe.specs.Units.{record_unit}
 use Rattle.bm_stripe.proofs.UnitLemmas.{IsAreaUnit-record}
 use Rattle.bm_control.specs.declared.state.SlateState.{SlateState}
 use Rattle.bm_control.specs.declared.state.SlateState.TheVariants.{Closed, Loaded, Working}
-use Rattle.bm_control.specs.Bodies.{load_page, job_page, kind_of, IsJobBody, IsPassBody}
-use Rattle.bm_control.specs.Consistent.{input_of, pass_body}
-use Rattle.bm_control.specs.PageCalls.{MakesPageCalls, IsStartPage}
-use Rattle.bm_control.specs.Progress.{IsGone, IsSure}
+use Rattle.bm_control.specs.Bodies.{load_page, kind_of, IsJobBody}
+use Rattle.bm_control.specs.Pages.{load_body, job_body, job_gate, HasOpenJob, HasLoadBody, HasJobBody}
+use Rattle.bm_control.specs.Consistent.{input_of}
+use Rattle.bm_control.specs.PageCalls.{IsStartPage}
 use Rattle.bm_control.specs.Sound.{IsSound}
 use Rattle.bm_control.specs.State.{StateAnswer}
 use Rattle.bm_control.proofs.ImageLemmas.{image_self, Settled, never_settled, open_settled}
@@ -38,14 +35,15 @@ use Rattle.bm_control.proofs.MomentLemmas.{load_unique}
 use Rattle.bm_job.specs.declared.answers.RunError.{RunError}
 use Rattle.bm_job.specs.declared.answers.RunError.TheVariants.{Failed, NotLoaded, OtherShape, OtherJob, BadPage}
 use Rattle.bm_job.specs.declared.machine.Machine.{Machine}
-use Rattle.bm_job.specs.Begins.{BeginAnswer, BeginCalls, IsFresh, IsLoadedState, IsOpenState, OpensOnly, state_of}
-use Rattle.bm_job.specs.Follows.{Follows, loads_moved}
-use Rattle.bm_job.specs.Turns.{IsTurnRefusal, MakesCalls}
-use Rattle.bm_job.specs.Runs.{IsJobsPage, IsWorkUnit, IsRunUnit, turn_pages, turn_syncs, run_pages, run_syncs, CallsFew, RunCalls, loads_left, load_rows, IsReportOf, IsBadPass, RunAnswer, IsRunnable, RunDone, RunFailed, KeepsJobs, KeepsOpenJob, MovesFew, IsReached, IsEnd}
+use Rattle.bm_job.specs.Begins.{BeginAnswer, IsFresh, IsLoadedState, IsOpenState, OpensOnly, state_of}
+use Rattle.bm_job.specs.Follows.{Follows}
+use Rattle.bm_job.specs.Turns.{IsTurnRefusal}
+use Rattle.bm_job.specs.Runs.{IsJobsPage, IsWorkUnit, IsRunUnit, loads_left, load_rows, IsReportOf, RunAnswer, IsRunnable, RunDone, KeepsJobs, KeepsOpenJob, MovesFew, IsEnd}
+use Rattle.bm_job.proofs.HeldLemmas.{has_bits}
 use Rattle.bm_job.proofs.DoneLemmas.{finished_means}
-use Rattle.bm_job.proofs.RangeLemmas.{few_passes}
-use Rattle.bm_job.proofs.RunLemmas.{front_kept, body_kept, rows_most}
-use Rattle.bm_job.proofs.UniqueLemmas.{job_unique, passes_unique, every_unique}
+use Rattle.bm_job.proofs.WorkUnitLemmas.{front_kept}
+use Rattle.bm_job.proofs.RunLemmas.{rows_most}
+use Rattle.bm_control.proofs.UniqueLemmas.{job_unique}
 
 -- ---- what is written
 
@@ -88,149 +86,35 @@ front_image m t old new dims image page follows w i early =
     ∙ w.contents (page_unit page) (front_kept t page early)
 
 -- the jobs of images where no turn was taken
-pub begin_images : (s : Shape) (job : Job) (passes every : ℕ) (old new : RackView) → OpensOnly (job_page s job passes every) old new
-    → KeepsJobs job (job_page s job passes every) old new
+pub begin_images : (s : Shape) (job : Job) (passes every : ℕ) (old new : RackView) → OpensOnly s job passes every old new
+    → KeepsJobs s job passes every old new
 begin_images s job passes every old new opens = record {
   bodies = λ dims image stands i gate. elim (opens dims image stands i gate) [
     | inl was ↦ inl (record { image = image; is_image = was; opened = gate; body = refl })
     | inr is ↦ inr is
   ];
-  others = λ dims image stands i gate none. elim (opens dims image stands i gate) [
+  others = λ dims image stands i gate t other p q body differs. elim (opens dims image stands i gate) [
     | inl was ↦ was
-    | inr is ↦ absurd (none s passes every is)
+    | inr is ↦ absurd (differs (job_unique t s (page_at image job_body) other job p passes q every body is))
   ];
 }
 
 -- and where turns were taken
-pub end_images : (m : Machine) (s : Shape) (job : Job) (page : List ℕ) (old mid new : RackView) → OpensOnly page old mid → IsFresh s job m → Follows m mid
-    → DirtiesOnly (IsWorkUnit m.shape) mid new → ((dims : Dims) → mid.stands ≡ Some dims → HasSizes dims mid.contents) → KeepsJobs job page old new
-end_images m s job page old mid new opens fresh follows w sizes = record {
+pub end_images : (m : Machine) (s : Shape) (job : Job) (passes every : ℕ) (old mid new : RackView) → OpensOnly s job passes every old mid → IsFresh s job m
+    → Follows m mid → DirtiesOnly (IsWorkUnit m.shape) mid new → ((dims : Dims) → mid.stands ≡ Some dims → HasSizes dims mid.contents)
+    → KeepsJobs s job passes every old new
+end_images m s job passes every old mid new opens fresh follows w sizes = record {
   bodies = λ dims image stands i gate.
       let here : mid.stands ≡ Some dims = sym w.stands ∙ stands in
-      let two = front_image m m.shape mid new dims image 2 follows w i (omega arith) in
+      let body = front_image m m.shape mid new dims image job_body follows w i (omega arith) in
       elim (opens dims mid.contents here (image_self mid dims (sizes dims here)) follows.held.job_gate) [
-        | inl was ↦ inl (record { image = mid.contents; is_image = was; opened = follows.held.job_gate; body = sym two })
-        | inr is ↦ inr (two ∙ is)
+        | inl was ↦ inl (record { image = mid.contents; is_image = was; opened = follows.held.job_gate; body = sym body })
+        | inr is ↦ inr (subst (λ (page : List ℕ). IsJobBody s page job passes every) (sym body) is)
       ];
-  others = λ dims image stands i gate none.
-      let two = front_image m m.shape mid new dims image 2 follows w i (omega arith) in
-      absurd (none m.shape m.passes m.every (two ∙ follows.held.body.page_is ∙ ap (λ (j : Job). job_page m.shape j m.passes m.every) fresh.job_is));
-}
-
--- ---- how far it came
-
--- a begin that failed
-pub begin_failed : (s : Shape) (old new : RackView) → (IsOpenGate (page_at old.contents 3) → DirtiesOnly (λ u. ⊥) old new) → new.moves ≡ old.moves
-    → old.moves < 2 ^ 64 → ((dims : Dims) → old.stands ≡ Some dims → HasSizes dims old.contents) → RunFailed s old new
-begin_failed s old new unchanged moves well sizes = record {
-  grows = λ before after one two. elim (cases_lt after before) [
-    | inl less ↦
-        let closed : IsClosedGate (page_at old.contents 3) = λ opened.
-        (let w = unchanged opened in
-        let more : before ≤ after = one.least two.dims two.image (sym w.stands ∙ two.stands) (image_before old new two.dims two.image w two.is_image) after two.reached in
-        omega (arith, less, more)) in
-        let none : before ≤ 0 = one.least one.dims old.contents one.stands (image_self old one.dims (sizes one.dims one.stands)) 0 (inl (closed, refl)) in
-        absurd (omega (arith, less, none))
-    | inr more ↦ more
-  ];
-  rows = λ opened job passes every body before after one two. omega (arith, moves, well);
-  none = λ dims image stands i closed. moves;
-}
-
--- more loads have more rows
-load_rows_more : (s : Shape) (a b : ℕ) → a ≤ b → load_rows s a ≤ load_rows s b
-load_rows_more s a b h = mul-le-mul_left (2 * load_stripes s) h
-
--- a count after calls that were fewer
-raised_rows : (a b c k l : ℕ) → b ≡ a → c ≤ raised b k → k ≤ l → c ≤ raised a l
-raised_rows a b c k l same few more = omega (arith, same, few, more)
-
--- turns that failed
-pub end_failed : (m : Machine) (s : Shape) (job : Job) (old mid new : RackView) → IsFresh s job m → IsGone old.contents (loads_moved m) → Follows m mid
-    → DirtiesOnly (IsWorkUnit m.shape) mid new → mid.moves ≡ old.moves
-    → InEveryImage (λ v. (gone : ℕ) → IsGone v gone → IsReached m gone mid new) new
-    → ((dims : Dims) → old.stands ≡ Some dims → HasSizes dims old.contents) → RunFailed s old new
-end_failed m s job old mid new fresh gone follows w moves reached sizes = record {
-  grows = λ before after one two. (let a = at_first before one in let b = at_last after two in omega (arith, a, b));
-  rows = λ opened other passes every body before after one two.
-      let a = at_first before one in
-      let b = at_last after two in
-      let r = reached two.dims two.image two.stands two.is_image after two.reached in
-      let page : page_at new.contents 2 ≡ page_at mid.contents 2 = w.contents (page_unit 2) (front_kept m.shape 2 (omega arith)) in
-      let here : IsJobBody s (page_at mid.contents 2) other passes every = subst (λ (p : List ℕ). IsJobBody s p other passes every) page body in
-      let mine : IsJobBody s (page_at mid.contents 2) m.job m.passes m.every = subst (λ (t : Shape). IsJobBody t (page_at mid.contents 2) m.job m.passes m.every) fresh.shape follows.held.body in
-      let same : every ≡ m.every = every_unique s (page_at mid.contents 2) other m.job passes m.passes every m.every here mine in
-      let rows : new.moves ≤ raised mid.moves (load_rows s (after + m.every - loads_moved m)) =
-      subst (λ (t : Shape). new.moves ≤ raised mid.moves (load_rows t (after + m.every - loads_moved m))) fresh.shape r.rows in
-      raised_rows old.moves mid.moves new.moves (load_rows s (after + m.every - loads_moved m)) (load_rows s (after - before + every)) moves rows
-      (load_rows_more s (after + m.every - loads_moved m) (after - before + every) (omega (arith, a, b, same)));
-  none = λ dims image stands i closed. absurd (closed (front_image m m.shape mid new dims image 3 follows w i (omega arith) ∙ follows.held.job_gate));
-}
-  where
-    at_first : (before : ℕ) → IsSure old before → before ≤ loads_moved m
-    at_first before one = one.least one.dims old.contents one.stands (image_self old one.dims (sizes one.dims one.stands)) (loads_moved m) gone
-
-    at_last : (after : ℕ) → IsSure new after → loads_moved m ≤ after
-    at_last after two =
-        let r = (reached two.dims two.image two.stands two.is_image after two.reached).counted in
-        let same = fresh.load in
-        omega (arith, r, same)
-
--- ---- calls
-
--- the calls of a begin and of turns
-pub both_calls : (t : Shape) (passes every rows : ℕ) (succeeds : Type 0) (a b c : RackView) → MakesPageCalls ⊥ (8 + 2 * passes) 3 a b
-    → MakesCalls succeeds rows (turn_pages t passes every) (turn_syncs t passes every) b c → CallsFew (run_pages t passes every) (run_syncs t passes every) a c
-both_calls t passes every rows succeeds a b c x y = record {
-  pages_low = omega (arith, x.pages_low, y.pages_low);
-  pages_high = omega (arith, x.pages_high, y.pages_high);
-  syncs_low = omega (arith, x.syncs_low, y.syncs_low);
-  syncs_high = omega (arith, x.syncs_high, y.syncs_high);
-}
-
--- the calls of a begin alone
-calls_few : (t : Shape) (passes every pages syncs : ℕ) (a b : RackView) → pages ≤ 8 + 2 * passes → syncs ≤ 3 → MakesPageCalls ⊥ pages syncs a b
-    → CallsFew (run_pages t passes every) (run_syncs t passes every) a b
-calls_few t passes every pages syncs a b few less x = record {
-  pages_low = x.pages_low;
-  pages_high = omega (arith, x.pages_high, few);
-  syncs_low = x.syncs_low;
-  syncs_high = omega (arith, x.syncs_high, less);
-}
-
--- where no turn was taken
-pub begin_calls : (s : Shape) (v : Contents) (passes every : ℕ) (a b : RackView) → BeginCalls v passes a b → RunCalls s v passes every a b
-begin_calls s v passes every a b x = record {
-  none = λ closed. calls_few s passes every (7 + 2 * passes) 3 a b (omega arith) (omega arith) (x.none closed);
-  bare = λ none. calls_few s passes every (7 + 2 * passes) 3 a b (omega arith) (omega arith) (x.bare none);
-  opened = λ gate t job p q load body. calls_few t p q (8 + 2 * p) 1 a b (omega arith) (omega arith) (x.opened gate t job p q load body);
-}
-
--- calls by other names of the numbers
-calls_same : (t u : Shape) (p q passes every : ℕ) (a b : RackView) → t ≡ u → p ≡ passes → q ≡ every → CallsFew (run_pages t p q) (run_syncs t p q) a b
-    → CallsFew (run_pages u passes every) (run_syncs u passes every) a b
-calls_same t u p q passes every a b shape count loads x =
-    subst (λ (y : ℕ). CallsFew (run_pages u passes y) (run_syncs u passes y) a b) loads
-    (subst (λ (y : ℕ). CallsFew (run_pages u y q) (run_syncs u y q) a b) count
-    (subst (λ (y : Shape). CallsFew (run_pages y p q) (run_syncs y p q) a b) shape x))
-
--- and where turns were taken
-pub run_calls : (s : Shape) (job : Job) (m : Machine) (v : Contents) (passes every : ℕ) (a b : RackView) → BeginAnswer s job passes every v (Ok m)
-    → CallsFew (run_pages m.shape m.passes m.every) (run_syncs m.shape m.passes m.every) a b → RunCalls s v passes every a b
-run_calls s job m v passes every a b (fresh, inl (loaded, start)) x = record {
-  none = λ closed. calls_same m.shape s m.passes m.every passes every a b fresh.shape start.passes_are start.every_is x;
-  bare = λ none. calls_same m.shape s m.passes m.every passes every a b fresh.shape start.passes_are start.every_is x;
-  opened = λ gate. absurd (loaded.2 gate);
-}
-run_calls s job m v passes every a b (fresh, inr told) x = record {
-  none = λ closed. absurd (closed told.0.job_gate);
-  bare = λ none. absurd (none m.shape m.job m.passes m.every told.0.load_body told.1.body);
-  opened = λ gate t other p q load body.
-      let shape : m.shape ≡ t = load_unique m.shape t (page_at v 0) told.0.load_body load in
-      let mine : IsJobBody t (page_at v 2) m.job m.passes m.every = subst (λ (u : Shape). IsJobBody u (page_at v 2) m.job m.passes m.every) shape told.1.body in
-      calls_same m.shape t m.passes m.every p q a b shape
-      (passes_unique t (page_at v 2) m.job other m.passes p m.every q mine body)
-      (every_unique t (page_at v 2) m.job other m.passes p m.every q mine body) x;
+  others = λ dims image stands i gate t other p q is differs.
+      let body = front_image m m.shape mid new dims image job_body follows w i (omega arith) in
+      let mine = subst (λ (page : List ℕ). IsJobBody m.shape page m.job m.passes m.every) (sym body) follows.held.body in
+      absurd (differs (job_unique t m.shape (page_at image job_body) other m.job p m.passes q m.every is mine ∙ fresh.job_is));
 }
 
 -- ---- answers
@@ -245,43 +129,22 @@ report_told s job m v passes every r (fresh, inr told) count done part =
     let same : state_of m ≡ Working s job r.passes r.done_before m.every r.part_before m.slot = cc in
     inr (m.every, m.slot, subst (λ (state : SlateState). StateAnswer v (Ok state)) same told)
 
--- a refusal of a turn
-pub turn_refused : (s : Shape) (job : Job) (m : Machine) (passes every : ℕ) (old mid new : RackView) (e : RunError) → BeginAnswer s job passes every old.contents (Ok m)
-    → IsTurnRefusal e → (IsOpenGate (page_at old.contents 3) → DirtiesOnly (λ u. ⊥) old mid) → DirtiesOnly (IsWorkUnit m.shape) mid new
-    → ((page : ℕ) → e ≡ BadPage page → IsBadPass m.shape m.passes mid.contents page) → RunAnswer s job passes every old new (Err e)
-turn_refused s job m passes every old mid new Failed answer is unchanged w bad = tt
-turn_refused s job m passes every old mid new NotLoaded answer is unchanged w bad = absurd is
-turn_refused s job m passes every old mid new OtherShape answer is unchanged w bad = absurd is
-turn_refused s job m passes every old mid new OtherJob answer is unchanged w bad = absurd is
-turn_refused s job m passes every old mid new (BadPage page) (fresh, inl (loaded, start)) is unchanged w bad =
-    let b = bad page refl in
-    let few = few_passes m.shape m.job m.passes m.done m.every m.part m.slot m.load m.keeps in
-    let below = b.1 in
-    let count = start.passes_are in
-    let same : page_at new.contents (pass_body b.0) ≡ page_at mid.contents (pass_body b.0) = w.contents (page_unit (pass_body b.0)) (body_kept m.shape b.0 (omega (arith, few, below))) in
-    inr (
-      loaded,
-      (
-        b.0,
-        omega (arith, below, count),
-        b.2,
-        λ form next.
-            b.3 form (subst (λ (p : List ℕ). IsPassBody m.shape b.0 p form) same (subst (λ (t : Shape). IsPassBody t b.0 (page_at new.contents (pass_body b.0)) form) (sym fresh.shape) next)),
-      ),
-    )
-turn_refused s job m passes every old mid new (BadPage page) (fresh, inr told) is unchanged w bad =
-    let b = bad page refl in
-    let has = told.1.stand.bodies b.0 b.1 in
-    let same : page_at mid.contents (pass_body b.0) ≡ page_at old.contents (pass_body b.0) = (unchanged told.0.job_gate).contents (page_unit (pass_body b.0)) (λ e. e) in
-    absurd (b.3 has.pass (subst (λ (p : List ℕ). IsPassBody m.shape b.0 p has.pass) (sym same) has.body))
+-- a refusal of a turn: no page of a job that was begun is wrong
+pub turn_refused : (s : Shape) (job : Job) (passes every : ℕ) (old new : RackView) (e : RunError) → IsTurnRefusal e → ((page : ℕ) → e ≢ BadPage page)
+    → RunAnswer s job passes every old new (Err e)
+turn_refused s job passes every old new Failed is good = tt
+turn_refused s job passes every old new NotLoaded is good = absurd is
+turn_refused s job passes every old new OtherShape is good = absurd is
+turn_refused s job passes every old new OtherJob is good = absurd is
+turn_refused s job passes every old new (BadPage page) is good = absurd (good page refl)
 
 -- ---- where a job can be run
 
 -- a shape that is loaded is the one that is told
-loaded_shape : (s t : Shape) (v : Contents) (state : SlateState) → StateAnswer v (Ok state) → IsLoadedState t state → page_at v 0 ≡ load_page s → t ≡ s
+loaded_shape : (s t : Shape) (v : Contents) (state : SlateState) → StateAnswer v (Ok state) → IsLoadedState t state → HasLoadBody s v → t ≡ s
 loaded_shape s t v Closed told is body = absurd is
-loaded_shape s t v (Loaded u) told is body = sym is ∙ load_unique u s (page_at v 0) told.1 body
-loaded_shape s t v (Working u job passes done every part slot) told is body = sym is ∙ load_unique u s (page_at v 0) told.0.load_body body
+loaded_shape s t v (Loaded u) told is body = sym is ∙ load_unique u s (page_at v load_body) told.1 body
+loaded_shape s t v (Working u job passes done every part slot) told is body = sym is ∙ load_unique u s (page_at v load_body) told.0.load_body body
 
 -- and a job that is open
 open_job : (s : Shape) (job other : Job) (v : Contents) (state : SlateState) → StateAnswer v (Ok state) → IsOpenState other state → IsRunnable s job v → other ≡ job
@@ -290,9 +153,9 @@ open_job s job other v (Loaded u) told is r = absurd is
 open_job s job other v (Working u mine passes done every part slot) told is r = elim r.job_gate [
   | inl closed ↦ absurd (closed told.0.job_gate)
   | inr body ↦
-      let shape : u ≡ s = load_unique u s (page_at v 0) told.0.load_body r.load_body in
-      let here : IsJobBody s (page_at v 2) mine passes every = subst (λ (t : Shape). IsJobBody t (page_at v 2) mine passes every) shape told.1.body in
-      sym is ∙ job_unique s (page_at v 2) mine job passes body.0 every body.1 here body.2
+      let shape : u ≡ s = load_unique u s (page_at v load_body) told.0.load_body r.load_body in
+      let here : HasJobBody s v mine passes every = subst (λ (t : Shape). HasJobBody t v mine passes every) shape told.1.body in
+      sym is ∙ job_unique s s (page_at v job_body) mine job passes body.0 every body.1 here body.2
 ]
 
 -- nothing but the rack refuses a begin where the job can be run
@@ -315,18 +178,13 @@ turn_complete (BadPage page) is good = absurd (good page refl)
 -- ---- what was done
 
 -- a record of the input lies in a block of the input
-input_record : (s : Shape) (x : ℕ) → x < 2 ^ s.n → IsInputUnit (dims_of s) (record_unit s Input x)
+pub input_record : (s : Shape) (x : ℕ) → x < 2 ^ s.n → IsInputUnit (dims_of s) (record_unit s Input x)
 input_record s x below = (let area = IsAreaUnit-record s Input x below in let less = area.1 in omega (arith, less))
 
 -- the same input has the same records
 pub same_input_records : (s : Shape) (old new : RackView) → SameInput (dims_of s) old new → SameRecords (2 ^ s.n) (input_of new.contents s) (input_of old.contents s)
 same_input_records s old new same x below =
     ap (λ (bytes : List ℕ). slice_chunk bytes s.width (x % 2 ^ s.b)) (same.contents (record_unit s Input x) (input_record s x below))
-
--- a job that fits a shape has its bits
-fits_bits : (s : Shape) (job : Job) → JobFits s job → HasBits s.n job
-fits_bits s (Permute f) fits = fits.0
-fits_bits s Walsh fits = tt
 
 -- the records of a job whose passes are all done
 pub done_records : (s : Shape) (job : Job) (m : Machine) (old new : RackView) (passes : ℕ) → m.shape ≡ s → m.job ≡ job → m.passes ≡ passes → m.done ≡ m.passes
@@ -339,12 +197,12 @@ done_records s job m old new passes shape job_is count end stands sizes follows 
     subst (λ (p : ℕ). SameRecords (2 ^ s.n) (record_at new.contents s (area_after p)) (meaning s.n job (input_of new.contents s))) count
     (subst (λ (k : Job). SameRecords (2 ^ s.n) (record_at new.contents s (area_after m.passes)) (meaning s.n k (input_of new.contents s))) job_is
     (subst (λ (t : Shape). SameRecords (2 ^ t.n) (record_at new.contents t (area_after m.passes)) (meaning t.n m.job (input_of new.contents t))) shape mine)) in
-    let bits : HasBits s.n job = subst (λ (t : Shape). HasBits t.n job) shape (subst (HasBits m.shape.n) job_is (fits_bits m.shape m.job follows.held.body.fits.fits)) in
+    let bits : HasBits s.n job = subst (λ (t : Shape). HasBits t.n job) shape (subst (HasBits m.shape.n) job_is (has_bits m.shape m.job follows.held.body.fits.fits)) in
     means x below ∙ meaning-same s.n job (input_of new.contents s) (input_of old.contents s) bits (same_input_records s old new input) x below
 
 -- all that a run that succeeded leaves
 pub run_done : (s : Shape) (job : Job) (start end : Machine) (passes every : ℕ) (r : RunReport) (old mid new : RackView)
-    → BeginAnswer s job passes every old.contents (Ok start) → (IsOpenGate (page_at old.contents 3) → DirtiesOnly (λ u. ⊥) old mid)
+    → BeginAnswer s job passes every old.contents (Ok start) → (HasOpenJob old.contents → DirtiesOnly (λ u. ⊥) old mid)
     → DirtiesOnly (IsWorkUnit start.shape) mid new → IsEnd start end → Follows end new → r.passes ≡ start.passes
     → new.stands ≡ Some (dims_of s) → HasSizes (dims_of s) new.contents → SameInput (dims_of s) old new → RunDone s job passes every r old new
 run_done s job start end passes every r old mid new (fresh, told) unchanged w is follows count stands sizes input =
@@ -359,17 +217,21 @@ run_done s job start end passes every r old mid new (fresh, told) unchanged w is
       load_gate = h.load_gate;
       job_gate = h.job_gate;
       loads = end.every;
-      body = subst (λ (p : ℕ). IsJobBody s (page_at new.contents 2) job p end.every) all
-          (subst (λ (k : Job). IsJobBody s (page_at new.contents 2) k end.passes end.every) job_is
-          (subst (λ (t : Shape). IsJobBody t (page_at new.contents 2) end.job end.passes end.every) shape h.body));
+      body = subst (λ (p : ℕ). HasJobBody s new.contents job p end.every) all
+          (subst (λ (k : Job). HasJobBody s new.contents k end.passes end.every) job_is
+          (subst (λ (t : Shape). HasJobBody t new.contents end.job end.passes end.every) shape h.body));
       gates = λ k below. h.gates.opened k (let done = is.done in omega (arith, below, all, done));
       clean = λ u. h.outside u (λ left. absurd (let done = is.done in omega (arith, left, done)));
       fresh = λ closed. elim told [
         | inl at_start ↦ (count ∙ at_start.1.passes_are, is.same.every ∙ at_start.1.every_is)
         | inr opened ↦ absurd (closed opened.0.job_gate)
       ];
-      stored = λ opened. w.contents (page_unit 2) (front_kept start.shape 2 (omega arith)) ∙ (unchanged opened).contents (page_unit 2) (λ e. e);
+      stored = λ opened. w.contents (page_unit job_body) (front_kept start.shape job_body (omega arith)) ∙ (unchanged opened).contents (page_unit job_body) (λ e. e);
     }
+
+-- a count after calls that were fewer
+pub raised_rows : (a b c k l : ℕ) → b ≡ a → c ≤ raised b k → k ≤ l → c ≤ raised a l
+raised_rows a b c k l same few more = omega (arith, same, few, more)
 
 -- the row calls are within the job's limit
 pub end_most : (s : Shape) (job : Job) (m : Machine) (old mid new : RackView) → IsFresh s job m → mid.moves ≡ old.moves
@@ -391,25 +253,25 @@ kind_some Walsh is = omega (arith, is)
 
 -- a job that is open in every image stays open
 pub keeps_open : (s : Shape) (dims : Dims) (old new : RackView) → old.stands ≡ Some dims → HasSizes dims old.contents → IsSound old
-    → InEveryImage (λ v. IsOpenGate (page_at v 3)) old → (IsOpenGate (page_at old.contents 3) → DirtiesOnly (IsWorkUnit s) old new) → KeepsOpenJob old new
+    → InEveryImage HasOpenJob old → (HasOpenJob old.contents → DirtiesOnly (IsWorkUnit s) old new) → KeepsOpenJob old new
 keeps_open s dims old new stands sizes sound opened unchanged =
-    let gate = open_settled old dims 3 (omega arith) stands sizes opened in
+    let gate = open_settled old dims job_gate (omega arith) stands sizes opened in
     let zeros : slice_index (replicate 512 0) 10 ≡ 0 = refl in
-    let body : Settled (λ p. slice_index p 10 ≢ 0) 2 old =
-    never_settled (λ p. slice_index p 10 ≢ 0) old dims 2 (replicate 512 0) (omega arith) (length-replicate {A = ℕ} 512 0) stands sizes (λ none. none zeros)
+    let body : Settled (λ p. slice_index p 10 ≢ 0) job_body old =
+    never_settled (λ p. slice_index p 10 ≢ 0) old dims job_body (replicate 512 0) (omega arith) (length-replicate {A = ℕ} 512 0) stands sizes (λ none. none zeros)
     (λ d image is i. is_body d image is i) in
     let w = unchanged gate.holds in
     record {
-      body = w.contents (page_unit 2) (front_kept s 2 (omega arith));
-      gate = w.contents (page_unit 3) (front_kept s 3 (omega arith));
-      body_clean = w.dirty (page_unit 2) (front_kept s 2 (omega arith)) body.clean;
-      gate_clean = w.dirty (page_unit 3) (front_kept s 3 (omega arith)) gate.clean;
+      body = w.contents (page_unit job_body) (front_kept s job_body (omega arith));
+      gate = w.contents (page_unit job_gate) (front_kept s job_gate (omega arith));
+      body_clean = w.dirty (page_unit job_body) (front_kept s job_body (omega arith)) body.clean;
+      gate_clean = w.dirty (page_unit job_gate) (front_kept s job_gate (omega arith)) gate.clean;
     }
   where
-    is_body : (d : Dims) (image : Contents) → old.stands ≡ Some d → IsImage d old image → slice_index (page_at image 2) 10 ≢ 0
+    is_body : (d : Dims) (image : Contents) → old.stands ≡ Some d → IsImage d old image → slice_index (page_at image job_body) 10 ≢ 0
     is_body d image is i none =
         let c = sound.consistent d is d image is i in
         let open3 = opened d image is i in
         let l = c.loaded (c.after_load open3) in
         let j = c.job open3 l.shape l.body in
-        kind_some j.job (sym (job_numbers l.shape (page_at image 2) j.job (length j.forms) j.every j.body).kind ∙ none)
+        kind_some j.job (sym (job_numbers l.shape (page_at image job_body) j.job (length j.forms) j.every j.body).kind ∙ none)

@@ -10,7 +10,7 @@ use Rattle.bm_base.specs.Area.{area_after}
 use Rattle.bm_base.specs.Contents.{Contents, RackUnit, page_unit, unit_at, page_at, HasSizes}
 use Rattle.bm_base.specs.Gate.{IsOpenGate}
 use Rattle.bm_base.specs.Records.{record_at, SameRecords}
-use Rattle.bm_base.specs.Shape.{dims_of}
+use Rattle.bm_base.specs.Shape.{dims_of, loads_of}
 use Rattle.bm_gf2.specs.Affine.{affine_image}
 use Rattle.bm_forms.specs.declared.job.Job.{Job}
 use Rattle.bm_forms.specs.declared.job.Job.TheVariants.{Permute, Walsh}
@@ -27,8 +27,9 @@ use Rattle.bm_stripe.specs.Units.{IsAreaUnit, record_unit}
 use Rattle.bm_stripe.proofs.UnitLemmas.{IsAreaUnit-record, IsAreaUnit-apart}
 use Rattle.bm_pass.specs.LoadMove.{IsTargetUnit}
 use Rattle.bm_pass.proofs.PassLemmas.{IsTargetUnit-area, targets_apart, image_below_records}
-use Rattle.bm_control.specs.Bodies.{loads_of, load_page, IsJobBody, IsPassBody, IsPartBody}
-use Rattle.bm_control.specs.Consistent.{pass_body, pass_gate, slot_body, slot_gate, input_of, GatesAre, SlotStands, JobStands, IsConsistent}
+use Rattle.bm_control.specs.Bodies.{IsJobBody, IsPassBody, IsPartBody}
+use Rattle.bm_control.specs.Pages.{load_gate, job_gate, load_body, job_body, pass_body, pass_gate, slot_body, slot_gate, HasOpenLoad, HasOpenJob, HasLoadBody, HasJobBody}
+use Rattle.bm_control.specs.Consistent.{input_of, GatesAre, SlotStands, JobStands, IsConsistent}
 use Rattle.bm_control.specs.Progress.{Counts, IsCounted}
 use Rattle.bm_control.specs.Sound.{IsSound}
 use Rattle.bm_control.proofs.ImageLemmas.{image_self}
@@ -37,7 +38,7 @@ use Rattle.bm_control.proofs.SoundLemmas.{one_size, sound_same}
 use Rattle.bm_job.specs.declared.machine.Machine.{Machine}
 use Rattle.bm_job.specs.Follows.{IsNext, AreMoved, IsHeld, Follows}
 use Rattle.bm_job.proofs.AreaLemmas.{target_no_input, areas_apart, input_unit}
-use Rattle.bm_job.proofs.UniqueLemmas.{passes_unique, every_unique, done_unique, pass_map_unique}
+use Rattle.bm_control.proofs.UniqueLemmas.{passes_unique, every_unique, done_unique, pass_map_unique}
 
 -- contents in which an open job stands with these passes, of which so many are done
 pub record StandsAt (s : Shape) (v : Contents) (passes done every : ℕ) : Type 0 where
@@ -51,11 +52,11 @@ pub stands_at : (s : Shape) (job : Job) (passes done every part slot : ℕ) (v :
 stands_at s job passes done every part slot v stands sizes held =
     let c = held.sound.consistent (dims_of s) stands (dims_of s) v.contents stands (image_self v (dims_of s) sizes) in
     let j = c.job held.job_gate s held.load_body in
-    let passes_are : length j.forms ≡ passes = passes_unique s (page_at v.contents 2) j.job job (length j.forms) passes j.every every j.body held.body in
+    let passes_are : length j.forms ≡ passes = passes_unique s (page_at v.contents job_body) j.job job (length j.forms) passes j.every every j.body held.body in
     record {
       job = j;
       passes_are = passes_are;
-      every_is = every_unique s (page_at v.contents 2) j.job job (length j.forms) passes j.every every j.body held.body;
+      every_is = every_unique s (page_at v.contents job_body) j.job job (length j.forms) passes j.every every j.body held.body;
       done_is = done_unique v.contents passes j.done done (subst (λ (p : ℕ). GatesAre v.contents p j.done) passes_are j.gates) held.gates;
     }
 
@@ -78,7 +79,8 @@ take_fit s forms count all k d h =
     let inside : k < length forms = omega (arith, h, long) in
     subst (FitsBits s.n) (sym (get_or-take count forms k d within)) (forms_fit s forms all k d inside)
 
-has_bits : (s : Shape) (job : Job) → JobFits s job → HasBits s.n job
+-- a job that fits a shape has its bits
+pub has_bits : (s : Shape) (job : Job) → JobFits s job → HasBits s.n job
 has_bits s (Permute f) fits = fits.0
 has_bits s Walsh fits = tt
 
@@ -114,7 +116,7 @@ job_works_on s part a b j k most = record {
   job = j.job;
   forms = j.forms;
   every = j.every;
-  body = subst (λ (p : List ℕ). IsJobBody s p j.job (length j.forms) j.every) (sym (k.pages 2)) j.body;
+  body = subst (λ (p : List ℕ). IsJobBody s p j.job (length j.forms) j.every) (sym (k.pages job_body)) j.body;
   of_shape = j.of_shape;
   bodies = λ i pass is. subst (λ (p : List ℕ). IsPassBody s i p pass) (sym (k.pages (pass_body i))) (j.bodies i pass is);
   means = λ x below. all_passed-same s.n j.forms (input_of b s) (input_of a s) (forms_fit s j.forms j.of_shape) k.input x below ∙ j.means x below
@@ -136,10 +138,10 @@ job_works_on s part a b j k most = record {
 consistent_works_on : (s : Shape) (job : Job) (passes done every part slot : ℕ) (v : RackView) (dims : Dims) (image : Contents) → IsHeld s job passes done every part slot v
     → (at : StandsAt s v.contents passes done every) → KeepsJob s done part v.contents image → IsConsistent dims v.contents → IsConsistent dims image
 consistent_works_on s job passes done every part slot v dims image held at k c = record {
-  loaded = λ gate. (let l = c.loaded (sym (k.pages 1) ∙ gate) in record { shape = l.shape; body = k.pages 0 ∙ l.body; dims_are = l.dims_are });
-  after_load = λ gate. k.pages 1 ∙ c.after_load (sym (k.pages 3) ∙ gate);
+  loaded = λ gate. (let l = c.loaded (sym (k.pages load_gate) ∙ gate) in record { shape = l.shape; body = k.pages load_body ∙ l.body; dims_are = l.dims_are });
+  after_load = λ gate. k.pages load_gate ∙ c.after_load (sym (k.pages job_gate) ∙ gate);
   job = λ gate t body.
-      subst (λ (u : Shape). JobStands u image) (load_unique s t (page_at v.contents 0) held.load_body (sym (k.pages 0) ∙ body))
+      subst (λ (u : Shape). JobStands u image) (load_unique s t (page_at v.contents load_body) held.load_body (sym (k.pages load_body) ∙ body))
       (job_works_on s part v.contents image at.job (subst (λ (d : ℕ). KeepsJob s d part v.contents image) (sym at.done_is) k)
       (λ less other loads h counts.
       (held.counted.most (subst (λ (e : ℕ). e < loads_of s) at.every_is less) other loads h
@@ -277,10 +279,10 @@ held_state s job passes done every part slot old new same held = record {
   outside = λ u not. ap (λ (f : RackUnit → Bool). f u) same.dirty ∙ held.outside u not;
   durable = λ form next x below. ap (λ (f : RackUnit → Bool). f (record_unit s (area_after (done + 1)) (affine_image form.map.map x))) same.dirty
       ∙ held.durable form (subst (λ (v : Contents). IsNext s done v form) same.contents next) x below;
-  load_body = subst (λ (v : Contents). page_at v 0 ≡ load_page s) (sym same.contents) held.load_body;
-  load_gate = subst (λ (v : Contents). IsOpenGate (page_at v 1)) (sym same.contents) held.load_gate;
-  job_gate = subst (λ (v : Contents). IsOpenGate (page_at v 3)) (sym same.contents) held.job_gate;
-  body = subst (λ (v : Contents). IsJobBody s (page_at v 2) job passes every) (sym same.contents) held.body;
+  load_body = subst (λ (v : Contents). HasLoadBody s v) (sym same.contents) held.load_body;
+  load_gate = subst (λ (v : Contents). HasOpenLoad v) (sym same.contents) held.load_gate;
+  job_gate = subst (λ (v : Contents). HasOpenJob v) (sym same.contents) held.job_gate;
+  body = subst (λ (v : Contents). HasJobBody s v job passes every) (sym same.contents) held.body;
   gates = subst (λ (v : Contents). GatesAre v passes done) (sym same.contents) held.gates;
   counted = subst (λ (v : Contents). IsCounted s v every done part slot) (sym same.contents) held.counted;
 }

@@ -1,14 +1,13 @@
 -- How many calls the turns of a machine make.
-use Rattle.std.proofs.Common.{◌≡◌, ◌≢◌, inl, inr, ℕ, ◌+◌, ◌-◌, ◌*◌, ◌/◌, ◌%◌, ◌<◌, ◌≤◌, ◌==◌, true, false, Option, Some, None, IsSome, refl, sym, ◌∙◌, ap, subst, arith}
+use Rattle.std.proofs.Common.{◌≡◌, ◌≢◌, inl, inr, ℕ, ◌+◌, ◌-◌, ◌*◌, ◌/◌, ◌%◌, ◌<◌, ◌≤◌, Option, Some, None, IsSome, refl, sym, ◌∙◌, ap, subst, arith}
 use Rattle.std.specs.Int.{div_ceil}
-use Rattle.std.proofs.lemmas.Bool.{false≢true, cases_eq}
-use Rattle.std.proofs.lemmas.Bool.Decides.{nat_tests}
+use Rattle.std.proofs.lemmas.Bool.{false≢true, cases_eq, eq-eqb, ne_eqb}
 use Rattle.std.proofs.lemmas.Grind.{div_ceil_times}
 use Rattle.std.proofs.lemmas.Nat.{div-mul-add, div-add-mod'}
 use Rattle.std.proofs.Math.Nat.{mod-lt, div-eq_of_lt, mul-le-mul_right, lt_of_mul-lt-mul_right}
 use Rattle.bm_base.specs.declared.shape.Shape.{Shape}
 use Rattle.bm_forms.specs.declared.pass_form.PassForm.{PassForm}
-use Rattle.bm_control.specs.Bodies.{loads_of}
+use Rattle.bm_base.specs.Shape.{loads_of}
 use Rattle.bm_job.specs.declared.machine.Machine.{Machine}
 use Rattle.bm_job.specs.Follows.{loads_moved, loads_counted}
 use Rattle.bm_job.specs.Turns.{SameJob, IsNextOf, IsLastLoad, form_pages, durable_pages, durable_syncs}
@@ -87,31 +86,24 @@ pages_spent m = pages_at (marks_of m.shape m.every) m.done (form_read m.form) (m
 pub syncs_spent : Machine → ℕ
 syncs_spent m = syncs_at (marks_of m.shape m.every) m.done (m.load / m.every)
 
--- tests that say yes and no
-pub yes : (a b : ℕ) → a ≡ b → (a == b) ≡ true
-yes a b h = grind (arith, nat_tests)
-
-pub no_test : (a b : ℕ) → a ≢ b → (a == b) ≡ false
-no_test a b h = grind (arith, nat_tests)
-
 -- what is made durable after the last load of a pass, after one that is counted, and after another
 last_pages : (m : Machine) → IsLastLoad m → durable_pages m ≡ 1
-last_pages m last = rw (yes (m.load + 1) (loads_of m.shape) last) refl
+last_pages m last = rw (eq-eqb (m.load + 1) (loads_of m.shape) last) refl
 
 last_syncs : (m : Machine) → IsLastLoad m → durable_syncs m ≡ 2
-last_syncs m last = rw (yes (m.load + 1) (loads_of m.shape) last) refl
+last_syncs m last = rw (eq-eqb (m.load + 1) (loads_of m.shape) last) refl
 
 marked_pages : (m : Machine) → m.load + 1 < loads_of m.shape → (m.load + 1) % m.every ≡ 0 → durable_pages m ≡ 4
-marked_pages m within none = rw (no_test (m.load + 1) (loads_of m.shape) (λ e. omega (arith, e, within)), yes ((m.load + 1) % m.every) 0 none) refl
+marked_pages m within none = rw (ne_eqb (m.load + 1) (loads_of m.shape) (λ e. omega (arith, e, within)), eq-eqb ((m.load + 1) % m.every) 0 none) refl
 
 marked_syncs : (m : Machine) → m.load + 1 < loads_of m.shape → (m.load + 1) % m.every ≡ 0 → durable_syncs m ≡ 3
-marked_syncs m within none = rw (no_test (m.load + 1) (loads_of m.shape) (λ e. omega (arith, e, within)), yes ((m.load + 1) % m.every) 0 none) refl
+marked_syncs m within none = rw (ne_eqb (m.load + 1) (loads_of m.shape) (λ e. omega (arith, e, within)), eq-eqb ((m.load + 1) % m.every) 0 none) refl
 
 other_pages : (m : Machine) → m.load + 1 < loads_of m.shape → (m.load + 1) % m.every ≢ 0 → durable_pages m ≡ 0
-other_pages m within some = rw (no_test (m.load + 1) (loads_of m.shape) (λ e. omega (arith, e, within)), no_test ((m.load + 1) % m.every) 0 some) refl
+other_pages m within some = rw (ne_eqb (m.load + 1) (loads_of m.shape) (λ e. omega (arith, e, within)), ne_eqb ((m.load + 1) % m.every) 0 some) refl
 
 other_syncs : (m : Machine) → m.load + 1 < loads_of m.shape → (m.load + 1) % m.every ≢ 0 → durable_syncs m ≡ 0
-other_syncs m within some = rw (no_test (m.load + 1) (loads_of m.shape) (λ e. omega (arith, e, within)), no_test ((m.load + 1) % m.every) 0 some) refl
+other_syncs m within some = rw (ne_eqb (m.load + 1) (loads_of m.shape) (λ e. omega (arith, e, within)), ne_eqb ((m.load + 1) % m.every) 0 some) refl
 
 -- the three turns that there are
 pub data TurnKind (m : Machine) : Type 0 where

@@ -5,7 +5,7 @@ use Rattle.std.proofs.Math.Pow.{pow_mono}
 use Rattle.std.proofs.lemmas.Bool.{cases_lt}
 use Rattle.bm_base.specs.declared.shape.Shape.{Shape}
 use Rattle.bm_forms.specs.declared.job.Job.{Job}
-use Rattle.bm_control.specs.Bodies.{loads_of}
+use Rattle.bm_base.specs.Shape.{loads_of}
 use Rattle.bm_control.proofs.JobBodyLemmas.{limit-most}
 use Rattle.bm_job.specs.Ranges.{MachineFits}
 

@@ -1,75 +1,31 @@
 -- A run from its first turn to its last one.
-use Rattle.std.proofs.Common.{◌≡◌, ◌⊎◌, inl, inr, ℕ, ◌+◌, ◌-◌, ◌*◌, ◌%◌, ◌^◌, ◌<◌, ◌≤◌, Bool, IsTrue, List, refl, sym, ◌∙◌, ap, subst, arith}
-use Rattle.std.proofs.lemmas.Bool.{cases_eq}
+use Rattle.std.proofs.Common.{◌≡◌, ℕ, ◌+◌, ◌-◌, ◌*◌, ◌^◌, ◌<◌, ◌≤◌, Bool, IsTrue, List, refl, sym, ◌∙◌, ap, subst, arith}
 use Rattle.std.proofs.Math.Nat.{mul-le-mul_left, mul-le-mul_right}
 use Rattle.std.proofs.Math.Pow.{pow_mono}
 use Rattle.bm_base.specs.declared.shape.Shape.{Shape}
-use Rattle.bm_base.specs.declared.area.Area.{Area}
-use Rattle.bm_base.specs.declared.area.Area.TheVariants.{One, Two}
-use Rattle.bm_base.specs.Area.{area_after}
-use Rattle.bm_base.specs.Contents.{RackUnit, block_unit, page_unit, page_at}
+use Rattle.bm_base.specs.Contents.{page_unit, page_at}
 use Rattle.bm_base.specs.Count.{raised}
-use Rattle.bm_base.specs.Shape.{dims_of, stripes, load_stripes}
+use Rattle.bm_base.proofs.CaseLemmas.{raised_both}
+use Rattle.bm_base.specs.Shape.{dims_of, stripes, load_stripes, loads_of}
 use Rattle.bm_rack.specs.RackView.{RackView, IsWellFormed}
 use Rattle.bm_rack.specs.Image.{SameInput}
-use Rattle.bm_rack.specs.Frames.{DirtiesOnly, Keeps, RackCall}
+use Rattle.bm_rack.specs.Frames.{DirtiesOnly, Keeps, RackCall, MakesCalls}
 use Rattle.bm_rack.proofs.FrameLemmas.{DirtiesOnly-wider, DirtiesOnly-trans, Keeps-refl, Keeps-trans, HasCause-later, raised-zero}
 use Rattle.bm_pass.proofs.PassLemmas.{rows_of_pass}
-use Rattle.bm_stripe.specs.Units.{IsAreaUnit}
-use Rattle.bm_control.specs.Bodies.{loads_of, IsPassBody}
-use Rattle.bm_control.specs.Consistent.{pass_body}
-use Rattle.bm_control.specs.PageCalls.{IsSlotPage}
+use Rattle.bm_control.specs.Bodies.{IsPassBody}
+use Rattle.bm_control.specs.Pages.{pass_body}
 use Rattle.bm_job.specs.declared.machine.Machine.{Machine}
+use Rattle.bm_job.specs.Begins.{HasBodies}
 use Rattle.bm_job.specs.Follows.{Follows, IsNext, loads_moved, loads_counted}
-use Rattle.bm_job.specs.Turns.{SameJob, IsNextOf, IsTurnUnit, IsBadBody, MakesCalls, form_pages, durable_pages, durable_syncs}
-use Rattle.bm_job.specs.Runs.{IsProgressPage, IsWorkUnit, turn_pages, turn_syncs, loads_left, load_rows, IsBadPass, IsReached}
+use Rattle.bm_job.specs.Turns.{SameJob, IsNextOf, IsTurnUnit, IsBadBody, form_pages, durable_pages, durable_syncs}
+use Rattle.bm_job.specs.Runs.{IsWorkUnit, turn_pages, turn_syncs, loads_left, load_rows, IsReached}
 use Rattle.bm_job.proofs.RangeLemmas.{few_passes}
-use Rattle.bm_job.proofs.PaceLemmas.{yes, no_test, pages_spent, syncs_spent, turn_pages_few, turn_syncs_few, turn_pages_paid, turn_syncs_paid, end_pages_few, end_syncs_few, counted_grows, load_left, loads_all, moved_near}
-
--- ---- what is written
-
--- a pass writes area One or Two
-target_areas : (done : ℕ) → (area_after (done + 1) ≡ One) ⊎ (area_after (done + 1) ≡ Two)
-target_areas done = elim (cases_eq ((done + 1) % 2) 1) [
-  | inl odd ↦ inl (rw (no_test (done + 1) 0 (λ z. omega (arith, z)), yes ((done + 1) % 2) 1 odd) refl)
-  | inr even ↦ inr (rw (no_test (done + 1) 0 (λ z. omega (arith, z)), no_test ((done + 1) % 2) 1 even) refl)
-]
-
--- a slot's page shows progress
-slot_progress : (slot : ℕ) (u : RackUnit) → IsSlotPage slot u → IsProgressPage u
-slot_progress slot (block_unit disk place) is = is
-slot_progress slot (page_unit page) (inl is) = (omega (arith, is), inr (omega (arith, is)))
-slot_progress slot (page_unit page) (inr is) = (omega (arith, is), inr (omega (arith, is)))
-
--- what a turn writes the turns of a job write
-pub turn_work : (m : Machine) (u : RackUnit) → IsTurnUnit m u → IsWorkUnit m.shape u
-turn_work m u (inl is) = elim (target_areas m.done) [
-  | inl one ↦ inl (subst (λ (a : Area). IsAreaUnit m.shape a u) one is)
-  | inr two ↦ inr (inl (subst (λ (a : Area). IsAreaUnit m.shape a u) two is))
-]
-turn_work m (block_unit disk place) (inr (inl is)) = absurd is
-turn_work m (page_unit page) (inr (inl is)) = inr (inr (omega (arith, is), inl (omega (arith, is))))
-turn_work m (block_unit disk place) (inr (inr is)) = absurd is
-turn_work m (page_unit page) (inr (inr is)) = inr (inr (slot_progress _ (page_unit page) is))
-
--- no page before the first gate is written, nor a pass's body
-pub front_kept : (s : Shape) (page : ℕ) → page < 5 → ¬ IsWorkUnit s (page_unit page)
-front_kept s page early (inl is) = is
-front_kept s page early (inr (inl is)) = is
-front_kept s page early (inr (inr is)) = (let from = is.0 in omega (arith, early, from))
-
-pub body_kept : (s : Shape) (k : ℕ) → k < 254 → ¬ IsWorkUnit s (page_unit (pass_body k))
-body_kept s k few (inl is) = is
-body_kept s k few (inr (inl is)) = is
-body_kept s k few (inr (inr (from, inl odd))) = omega (arith, odd)
-body_kept s k few (inr (inr (from, inr late))) = omega (arith, late, few)
+use Rattle.bm_job.proofs.PaceLemmas.{pages_spent, syncs_spent, turn_pages_few, turn_syncs_few, turn_pages_paid, turn_syncs_paid, end_pages_few, end_syncs_few, counted_grows, load_left, loads_all, moved_near}
+use Rattle.bm_job.proofs.WorkUnitLemmas.{turn_work, body_kept}
 
 -- ---- counts
 
 -- a count after two calls
-raised_both : (a b c k j total : ℕ) → b ≤ raised a k → c ≤ raised b j → k + j ≤ total → c ≤ raised a total
-raised_both a b c k j total first second room = omega (arith, first, second, room)
-
 raised_sum : (a b c k j total : ℕ) → b ≡ raised a k → c ≡ raised b j → k + j ≡ total → c ≡ raised a total
 raised_sum a b c k j total first second room = omega (arith, first, second, room)
 
@@ -279,18 +235,16 @@ pub failed_input : (told_stands told_contents : Bool) (start now : Machine) (old
     → OnWay told_stands told_contents start now old mid → SameInput (dims_of now.shape) mid new → SameInput (dims_of start.shape) old new
 failed_input told_stands told_contents start now old mid new o x = same_input_then start.shape _ _ _ o.input (turn_input_of start.shape now mid new o.same.shape x)
 
--- a pass's body that is none now was none before
-pub bad_before : (told_stands told_contents : Bool) (start now : Machine) (old mid : RackView) (page : ℕ) → OnWay told_stands told_contents start now old mid
-    → now.done < now.passes → IsBadBody now mid.contents page → IsBadPass start.shape start.passes old.contents page
-bad_before told_stands told_contents start now old mid page o left bad =
+-- the body of the pass under way stands where all of them stood before
+pub body_stands : (told_stands told_contents : Bool) (start now : Machine) (old mid : RackView) (page : ℕ) → OnWay told_stands told_contents start now old mid
+    → now.done < now.passes → HasBodies start old.contents → ¬ IsBadBody now mid.contents page
+body_stands told_stands told_contents start now old mid page o left bodies bad =
     let few = few_passes now.shape now.job now.passes now.done now.every now.part now.slot now.load now.keeps in
     let same : page_at mid.contents (pass_body now.done) ≡ page_at old.contents (pass_body now.done) =
-    o.frame.contents (page_unit (pass_body now.done)) (body_kept start.shape now.done (omega (arith, left, few))) in (
-      now.done,
-      subst (λ (p : ℕ). now.done < p) o.same.passes left,
-      bad.0,
-      λ form next. bad.1 form (subst (λ (t : Shape). IsNext t now.done mid.contents form) (sym o.same.shape) (subst (λ (p : List ℕ). IsPassBody start.shape now.done p form) (sym same) next)),
-    )
+    o.frame.contents (page_unit (pass_body now.done)) (body_kept start.shape now.done (omega (arith, left, few))) in
+    let has = bodies now.done (subst (λ (p : ℕ). now.done < p) o.same.passes left) in
+    bad.1 has.pass (subst (λ (t : Shape). IsNext t now.done mid.contents has.pass) (sym o.same.shape)
+    (subst (λ (p : List ℕ). IsPassBody start.shape now.done p has.pass) (sym same) has.body))
 
 -- the row calls of so many loads fit a word
 pub rows_fit : (s : Shape) (passes moved : ℕ) → passes ≤ 254 → moved ≤ passes * loads_of s → load_rows s moved < 2 ^ 64

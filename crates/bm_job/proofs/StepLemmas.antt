@@ -1,16 +1,16 @@
 -- A job that is open with its progress, after a load is moved and after its progress is made durable.
-use Rattle.std.proofs.Common.{◌≡◌, ◌≢◌, inl, inr, ℕ, ◌+◌, ◌-◌, ◌*◌, ◌^◌, ◌<◌, ◌≤◌, Some, List, [], ◌∷◌, length, take, slice_get, get_or, refl, sym, ◌∙◌, ap, subst, arith}
+use Rattle.std.proofs.Common.{◌≡◌, ◌≢◌, inl, inr, ℕ, ◌+◌, ◌-◌, ◌*◌, ◌^◌, ◌<◌, ◌≤◌, Some, List, length, take, slice_get, refl, sym, ◌∙◌, ap, subst, arith}
 use Rattle.std.proofs.Math.Path.{subst₂}
-use Rattle.std.proofs.Math.Nat.{mul_comm, mul-le-mul_right}
-use Rattle.std.proofs.lemmas.Bool.{cases_lt, cases_eq}
-use Rattle.std.proofs.lemmas.Option.{slice_get-get_or, get_or_from_slice_get}
+use Rattle.std.proofs.Math.Nat.{mul_comm}
+use Rattle.std.proofs.lemmas.Bool.{cases_eq}
+use Rattle.std.proofs.lemmas.Option.{get_or_from_slice_get}
 use Rattle.bm_base.specs.declared.shape.Shape.{Shape}
 use Rattle.bm_base.specs.Area.{area_after}
 use Rattle.bm_base.specs.Contents.{Contents, RackUnit, block_unit, page_unit, page_at, HasSizes}
 use Rattle.bm_base.specs.Gate.{IsOpenGate}
 use Rattle.bm_base.specs.Records.{record_at, SameRecords}
 use Rattle.bm_base.specs.Butterfly.{butterflies}
-use Rattle.bm_base.specs.Shape.{dims_of}
+use Rattle.bm_base.specs.Shape.{dims_of, loads_of}
 use Rattle.bm_gf2.specs.declared.affine.Affine.{Affine}
 use Rattle.bm_gf2.specs.Affine.{affine_image}
 use Rattle.bm_forms.specs.declared.job.Job.{Job}
@@ -27,19 +27,19 @@ use Rattle.bm_rack.proofs.FrameLemmas.{ChangesOnly-wider}
 use Rattle.bm_stripe.specs.Units.{IsAreaUnit}
 use Rattle.bm_pass.specs.LoadMove.{LoadMoved, LoadsMoved as PassMoved, IsTargetUnit}
 use Rattle.bm_pass.proofs.PassLemmas.{IsTargetUnit-area, image_below_records, source_stays, LoadsMoved-more, LoadsMoved-same, LoadsMoved-all}
-use Rattle.bm_control.specs.Bodies.{loads_of, part_page, PartBodyFits, IsJobBody, IsPassBody, IsPartBody}
-use Rattle.bm_control.specs.Consistent.{pass_body, pass_gate, slot_body, slot_gate, input_of, GatesAre, LoadsMoved, JobStands}
+use Rattle.bm_control.specs.Bodies.{part_page, PartBodyFits, IsJobBody, IsPassBody, IsPartBody}
+use Rattle.bm_control.specs.Consistent.{input_of, LoadsMoved, JobStands}
 use Rattle.bm_control.specs.Moments.{PassIsDone, PartIsMoved}
+use Rattle.bm_control.specs.Pages.{pass_body, pass_gate, slot_body, slot_gate}
 use Rattle.bm_control.specs.PageCalls.{IsSlotPage}
-use Rattle.bm_control.specs.Progress.{Counts, IsCounted, IsGone}
+use Rattle.bm_control.specs.Progress.{Counts}
 use Rattle.bm_control.specs.Sound.{IsSound}
 use Rattle.bm_control.proofs.ImageLemmas.{DiffersIn}
-use Rattle.bm_control.proofs.JobStandsLemmas.{recs_same}
-use Rattle.bm_control.proofs.MomentLemmas.{load_unique}
+use Rattle.bm_control.proofs.JobStandsLemmas.{recs_same, element}
 use Rattle.bm_control.proofs.StateLemmas.{part_unique}
 use Rattle.bm_job.specs.Follows.{IsNext, AreMoved, IsHeld}
 use Rattle.bm_job.proofs.AreaLemmas.{areas_apart}
-use Rattle.bm_job.proofs.UniqueLemmas.{passes_unique, every_unique, pass_map_unique, pass_low_unique}
+use Rattle.bm_control.proofs.UniqueLemmas.{pass_map_unique, pass_low_unique}
 use Rattle.bm_job.proofs.HeldLemmas.{stands_at}
 
 -- what a pass makes rests on its numbers
@@ -72,11 +72,6 @@ moved_more s done load form old new next inside only moved one other also =
     let next' : IsNext s done new.contents form = subst (λ (p : List ℕ). IsPassBody s done p form) (sym page) next in
     moved_by s done (load + 1) new.contents form other (record_at new.contents s to) (record_at new.contents s from) next' also
     (λ x below. now x (let turned = mul_comm (load + 1) (2 ^ s.m) in omega (arith, below, turned)))
-
--- an element of a list
-pub element : (forms : List PassForm) (k : ℕ) → k < length forms → (form : PassForm) × (slice_get forms k ≡ Some form)
-element [] k h = absurd (omega (arith, h))
-element (form ∷ forms) k h = (get_or (form ∷ forms) k form, slice_get-get_or (form ∷ forms) k form h)
 
 -- the pass under way makes of the records that it reads what the first passes make of the input
 pub next_passed : (s : Shape) (v : Contents) (j : JobStands s v) (form : PassForm) → j.done < length j.forms → slice_get j.forms j.done ≡ Some form
@@ -150,7 +145,7 @@ pub moved_none : (s : Shape) (done : ℕ) (v : Contents) → AreMoved s done 0 v
 moved_none s done v form next x below = absurd (let none : 0 * 2 ^ s.m ≡ 0 = omega arith in omega (arith, below, none))
 
 -- a slot that counts, where its pages are as before
-counts_same : (s : Shape) (done slot loads : ℕ) (a b : Contents) → page_at b (slot_gate slot) ≡ page_at a (slot_gate slot)
+pub counts_same : (s : Shape) (done slot loads : ℕ) (a b : Contents) → page_at b (slot_gate slot) ≡ page_at a (slot_gate slot)
     → page_at b (slot_body slot) ≡ page_at a (slot_body slot) → Counts s b done slot loads → Counts s a done slot loads
 counts_same s done slot loads a b gate body c = record {
   opened = sym gate ∙ c.opened;
@@ -260,63 +255,4 @@ held_marked s job passes done every part slot loads free old new held left few l
           (subst (λ (x : ℕ). IsPartBody s (page_at new.contents (slot_body x)) (done + 1) count) here c.body)).1 in
           omega (arith, is)
       | inr not ↦ (let e = (held.counted.most less other count h (counts_before other count not c)).1 in omega (arith, e, more))
-    ]
-
--- contents in which no page is changed but those that a turn writes
-pub record KeepsPages (P : ℕ → Type 0) (passes done slot : ℕ) (a b : Contents) : Type 0 where
-  pub pages : (k : ℕ) → ¬ P k → page_at b k ≡ page_at a k
-  pub front : (k : ℕ) → k < 4 → ¬ P k
-  pub gates : (k : ℕ) → k < passes → k ≢ done → ¬ P (pass_gate k)
-  pub slot_body_kept : slot < 2 → ¬ P (slot_body slot)
-  pub slot_gate_kept : slot < 2 → ¬ P (slot_gate slot)
-
--- they tell no less than what was counted
-pub counted_stays : (P : ℕ → Type 0) (s : Shape) (job : Job) (passes done every part slot : ℕ) (v : RackView) (image : Contents) (gone : ℕ)
-    → IsHeld s job passes done every part slot v → part < loads_of s → KeepsPages P passes done slot v.contents image → IsGone image gone
-    → done * loads_of s + part ≤ gone
-counted_stays P s job passes done every part slot v image gone held few k (inl is) = absurd (is.0 (k.pages 3 (k.front 3 (omega arith)) ∙ held.job_gate))
-counted_stays P s job passes done every part slot v image gone held few k (inr g) =
-    let same : s ≡ g.shape = load_unique s g.shape (page_at v.contents 0) held.load_body (sym (k.pages 0 (k.front 0 (omega arith))) ∙ g.load) in
-    let body : IsJobBody s (page_at v.contents 2) g.job g.passes g.every =
-    subst₂ (λ (t : Shape) (p : List ℕ). IsJobBody t p g.job g.passes g.every) (sym same) (k.pages 2 (k.front 2 (omega arith))) g.body in
-    let passes_are = passes_unique s (page_at v.contents 2) g.job job g.passes passes g.every every body held.body in
-    let every_is = every_unique s (page_at v.contents 2) g.job job g.passes passes g.every every body held.body in
-    let gates = subst (λ (p : ℕ). GatesAre image p g.done) passes_are g.gates in
-    let counted = subst₂ (λ (t : Shape) (e : ℕ). IsCounted t image e g.done g.part g.slot) (sym same) every_is g.counted in
-    let all : gone ≡ g.done * loads_of s + g.part = subst (λ (t : Shape). gone ≡ g.done * loads_of t + g.part) (sym same) g.sum in
-    let most = at_least g.done g.part g.slot gates counted in
-    omega (arith, all, most)
-  where
-    parts : slot < 2 → every < loads_of s
-    parts h = elim (cases_lt every (loads_of s)) [
-      | inl less ↦ less
-      | inr more ↦ (let most = held.body.fits.every_few in let two = held.counted.none (omega (arith, more, most)) in absurd (omega (arith, two, h)))
-    ]
-
-    no_less : (d p t : ℕ) → IsCounted s image every d p t → d ≡ done → part ≤ p
-    no_less d p t counted is = elim (cases_lt slot 2) [
-      | inl h ↦
-          let c = held.counted.counts h in
-          let c' = counts_same s done slot part image v.contents (sym (k.pages (slot_gate slot) (k.slot_gate_kept h)))
-          (sym (k.pages (slot_body slot) (k.slot_body_kept h))) c in
-          (counted.most (parts h) slot part h (subst (λ (x : ℕ). Counts s image x slot part) (sym is) c')).1
-      | inr two ↦ (let range = held.counted.range in let zero = held.counted.nothing (omega (arith, two, range)) in omega (arith, zero))
-    ]
-
-    at_least : (d p t : ℕ) → GatesAre image passes d → IsCounted s image every d p t → done * loads_of s + part ≤ d * loads_of s + p
-    at_least d p t gates counted = elim (cases_eq d done) [
-      | inl is ↦
-          let more = no_less d p t counted is in
-          let times : d * loads_of s ≡ done * loads_of s = ap (λ (x : ℕ). x * loads_of s) is in
-          omega (arith, more, times)
-      | inr not ↦ elim (cases_lt d done) [
-        | inl less ↦
-            let bound = held.gates.few in
-            absurd (gates.closed d (omega arith) (omega (arith, less, bound))
-            (k.pages (pass_gate d) (k.gates d (omega (arith, less, bound)) not) ∙ held.gates.opened d less))
-        | inr more ↦
-            let times : (done + 1) * loads_of s ≤ d * loads_of s = mul-le-mul_right (loads_of s) (omega (arith, more, not)) in
-            let one : (done + 1) * loads_of s ≡ done * loads_of s + loads_of s = omega arith in
-            omega (arith, times, one, few)
-      ]
     ]

@@ -1,7 +1,6 @@
 -- A turn as a whole: what it leaves as it was, at each exit.
-use Rattle.std.proofs.Common.{◌≡◌, ◌≢◌, ◌⊎◌, inl, inr, ℕ, ◌==◌, ◌<◌, ◌≤◌, Bool, true, false, IsTrue, Some, Result, Err, refl, sym, ◌∙◌, ap, arith}
-use Rattle.std.proofs.lemmas.Bool.{cases_lt, cases_eq}
-use Rattle.std.proofs.lemmas.Bool.Decides.{nat_tests}
+use Rattle.std.proofs.Common.{◌≡◌, ◌≢◌, ◌⊎◌, inl, inr, ℕ, ◌<◌, ◌≤◌, Bool, false, IsTrue, Some, Result, Ok, Err, IfOk, refl, sym, ◌∙◌, ap, arith}
+use Rattle.std.proofs.lemmas.Bool.{cases_lt, cases_eq, eq-eqb, ne_eqb}
 use Rattle.bm_base.specs.declared.dims.Dims.{Dims}
 use Rattle.bm_base.specs.Contents.{Contents, RackUnit, block_unit, page_unit, HasSizes}
 use Rattle.bm_base.specs.Shape.{dims_of}
@@ -9,15 +8,17 @@ use Rattle.bm_forms.specs.declared.pass_form.PassForm.{PassForm}
 use Rattle.bm_rack.specs.RackView.{RackView}
 use Rattle.bm_rack.specs.Frames.{DirtiesOnly}
 use Rattle.bm_rack.specs.Image.{IsImage, IsInputUnit, SameInput}
-use Rattle.bm_control.specs.Consistent.{pass_gate, slot_body, slot_gate}
 use Rattle.bm_control.specs.Progress.{IsGone}
 use Rattle.bm_control.proofs.EqualLemmas.{one_outcome}
+use Rattle.bm_job.specs.declared.answers.RunError.{RunError}
 use Rattle.bm_job.specs.declared.machine.Machine.{Machine}
 use Rattle.bm_job.specs.Follows.{IsNext, Follows, loads_counted}
-use Rattle.bm_job.specs.Turns.{free_slot, IsTurnUnit}
+use Rattle.bm_job.specs.Turns.{free_slot, KeepsForm, HasRead, IsTurnUnit}
 use Rattle.bm_job.proofs.RangeLemmas.{few_passes}
 use Rattle.bm_job.proofs.HeldLemmas.{stands_at, input_outside}
-use Rattle.bm_job.proofs.StepLemmas.{element, KeepsPages, counted_stays}
+use Rattle.bm_control.proofs.JobStandsLemmas.{element}
+use Rattle.bm_job.proofs.CountedLemmas.{KeepsPages, counted_stays}
+use Rattle.bm_control.specs.Pages.{pass_gate, slot_body, slot_gate}
 
 -- a pass is left where not all are done
 pub left_of : (finished : Bool) (done passes : ℕ) → finished ≡ false → (done ≡ passes → IsTrue finished) → done ≤ passes → done < passes
@@ -30,17 +31,11 @@ left_of finished done passes not all few = elim (cases_lt done passes) [
 pub refusal_of : {T U E : Type 0} (e f : E) → ◌≡◌ {A = Result T E} (Err e) (Err f) → ◌≡◌ {A = Result U E} (Err e) (Err f)
 refusal_of e f is = (let same : e ≡ f = cc in ap Err same)
 
-yes_test : (a b : ℕ) → a ≡ b → (a == b) ≡ true
-yes_test a b h = grind (arith, nat_tests)
-
-no_test : (a b : ℕ) → a ≢ b → (a == b) ≡ false
-no_test a b h = grind (arith, nat_tests)
-
 -- the slot that is written is not the counted one
 free_apart : (slot : ℕ) → free_slot slot ≢ slot
 free_apart slot is = elim (cases_eq slot 0) [
-  | inl zero ↦ (let one : free_slot slot ≡ 1 = rw (yes_test slot 0 zero) refl in omega (arith, one, zero, is))
-  | inr not ↦ (let none : free_slot slot ≡ 0 = rw (no_test slot 0 not) refl in not (sym is ∙ none))
+  | inl zero ↦ (let one : free_slot slot ≡ 1 = rw (eq-eqb slot 0 zero) refl in omega (arith, one, zero, is))
+  | inr not ↦ (let none : free_slot slot ≡ 0 = rw (ne_eqb slot 0 not) refl in not (sym is ∙ none))
 ]
 
 -- the pages that a turn may write
@@ -118,3 +113,9 @@ has_next m v stands sizes follows left =
     let at = stands_at m.shape m.job m.passes m.done m.every m.part m.slot v stands sizes follows.held in
     let next = element at.job.forms m.done (omega (arith, left, at.passes_are)) in
     (next.0, at.job.bodies m.done next.0 next.1)
+
+-- the form that a turn read is the one that it keeps
+pub read_of : (old : Machine) (v : Contents) (form : PassForm) (r : Result Machine RunError) → IsNext old.shape old.done v form
+    → IfOk r (λ next. KeepsForm form next.form) → IfOk r (λ next. HasRead old next v)
+read_of old v form (Ok next) body kept = record { form = form; body = body; kept = kept }
+read_of old v form (Err e) body kept = tt

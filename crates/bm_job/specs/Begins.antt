@@ -1,18 +1,17 @@
 -- What a begin answers and does.
-use Rattle.std.specs.Prelude.{Ok, Err, ◌≡◌, ◌≢◌, ◌⊎◌, ℕ, ◌+◌, ◌*◌, List, Result, Option, Some, None, IsTrue}
+use Rattle.std.specs.Prelude.{Ok, Err, ◌≡◌, ◌≢◌, ◌⊎◌, ℕ, ◌+◌, ◌*◌, ◌<◌, Result, Option, Some, None, IsTrue}
 use Rattle.bm_base.specs.declared.dims.Dims.{Dims}
 use Rattle.bm_base.specs.declared.shape.Shape.{Shape}
-use Rattle.bm_base.specs.Contents.{Contents, page_at}
-use Rattle.bm_base.specs.Gate.{IsOpenGate, IsClosedGate}
+use Rattle.bm_base.specs.Contents.{Contents}
 use Rattle.bm_forms.specs.declared.job.Job.{Job}
 use Rattle.bm_rack.specs.RackView.{RackView}
 use Rattle.bm_rack.specs.Image.{IsImage}
 use Rattle.bm_control.specs.declared.state.SlateState.{SlateState}
 use Rattle.bm_control.specs.declared.state.SlateState.TheVariants.{Closed, Loaded, Working}
 use Rattle.bm_control.specs.declared.state.ControlError.TheVariants as control
-use Rattle.bm_control.specs.Bodies.{load_page, IsJobBody}
+use Rattle.bm_control.specs.Pages.{HasOpenLoad, HasOpenJob, HasClosedJob, HasLoadBody, HasJobBody, no_slot}
 use Rattle.bm_control.specs.PageCalls.{MakesPageCalls}
-use Rattle.bm_control.specs.State.{StateAnswer}
+use Rattle.bm_control.specs.State.{StateAnswer, HasPassBody}
 use Rattle.bm_job.specs.declared.machine.Machine.{Machine}
 use Rattle.bm_job.specs.declared.answers.RunError.{RunError}
 use Rattle.bm_job.specs.declared.answers.RunError.TheVariants.{Failed, NotLoaded, OtherShape, OtherJob, BadPage}
@@ -31,7 +30,7 @@ pub record IsStart (passes every : ℕ) (m : Machine) : Type 0 where
   pub every_is : m.every ≡ every
   pub done : m.done ≡ 0
   pub part : m.part ≡ 0
-  pub slot : m.slot ≡ 2
+  pub slot : m.slot ≡ no_slot
 
 -- the open job that a machine knows
 abbrev pub state_of : Machine → SlateState
@@ -49,27 +48,27 @@ IsOpenState job Closed = ⊥
 IsOpenState job (Loaded t) = ⊥
 IsOpenState job (Working t other passes done every part slot) = other ≡ job
 
--- what is answered of a look at the control file
-abbrev pub LookAnswer : Contents → Result SlateState RunError → Type 0
-LookAnswer v (Ok state) = StateAnswer v (Ok state)
-LookAnswer v (Err Failed) = Unit {0}
-LookAnswer v (Err NotLoaded) = ⊥
-LookAnswer v (Err OtherShape) = ⊥
-LookAnswer v (Err OtherJob) = ⊥
-LookAnswer v (Err (BadPage page)) = StateAnswer v (Err (control.BadPage page))
+-- what is answered of the control file, once what was written is durable
+abbrev pub SettledAnswer : Contents → Result SlateState RunError → Type 0
+SettledAnswer v (Ok state) = StateAnswer v (Ok state)
+SettledAnswer v (Err Failed) = Unit {0}
+SettledAnswer v (Err NotLoaded) = ⊥
+SettledAnswer v (Err OtherShape) = ⊥
+SettledAnswer v (Err OtherJob) = ⊥
+SettledAnswer v (Err (BadPage page)) = StateAnswer v (Err (control.BadPage page))
 
 -- its page calls and syncs at most, by what is told
-abbrev pub LookCounts : SlateState → RackView → RackView → Type 0
-LookCounts Closed old new = MakesPageCalls ⊥ 1 1 old new
-LookCounts (Loaded s) old new = MakesPageCalls ⊥ 3 1 old new
-LookCounts (Working s job passes done every part slot) old new = MakesPageCalls ⊥ (8 + 2 * passes) 1 old new
+abbrev pub SettledCounts : SlateState → RackView → RackView → Type 0
+SettledCounts Closed old new = MakesPageCalls ⊥ 1 1 old new
+SettledCounts (Loaded s) old new = MakesPageCalls ⊥ 3 1 old new
+SettledCounts (Working s job passes done every part slot) old new = MakesPageCalls ⊥ (8 + 2 * passes) 1 old new
 
 -- and, whatever is answered, by what stands there
-pub record LookPages (v : Contents) (old new : RackView) : Type 0 where
-  pub idle : IsClosedGate (page_at v 3) → MakesPageCalls ⊥ 3 1 old new
-  pub bare : ((s : Shape) (job : Job) (p every : ℕ) → page_at v 0 ≡ load_page s → ¬ IsJobBody s (page_at v 2) job p every)
+pub record SettledPages (v : Contents) (old new : RackView) : Type 0 where
+  pub idle : HasClosedJob v → MakesPageCalls ⊥ 3 1 old new
+  pub bare : ((s : Shape) (job : Job) (p every : ℕ) → HasLoadBody s v → ¬ HasJobBody s v job p every)
       → MakesPageCalls ⊥ 4 1 old new
-  pub most : (s : Shape) (job : Job) (p every : ℕ) → page_at v 0 ≡ load_page s → IsJobBody s (page_at v 2) job p every
+  pub most : (s : Shape) (job : Job) (p every : ℕ) → HasLoadBody s v → HasJobBody s v job p every
       → MakesPageCalls ⊥ (8 + 2 * p) 1 old new
 
 -- What is answered of a state that was read: a machine where the job is open, none where it is to be opened, or why it can be neither. The
@@ -98,20 +97,24 @@ BeginAnswer s job passes every v (Err (BadPage page)) = StateAnswer v (Err (cont
 
 -- a shape is loaded, and no job is open
 pub record IsLoadedAlone (s : Shape) (v : Contents) : Type 0 where
-  pub load_gate : IsOpenGate (page_at v 1)
-  pub load_body : page_at v 0 ≡ load_page s
-  pub job_gate : IsClosedGate (page_at v 3)
+  pub load_gate : HasOpenLoad v
+  pub load_body : HasLoadBody s v
+  pub job_gate : HasClosedJob v
 
--- each image at the end in which a job is open is one from before, or has this job body
-abbrev pub OpensOnly : List ℕ → RackView → RackView → Type 0
-OpensOnly page old new = (dims : Dims) (image : Contents) → new.stands ≡ Some dims → IsImage dims new image → IsOpenGate (page_at image 3)
-    → IsImage dims old image ⊎ (page_at image 2 ≡ page)
+-- the body of each of its passes stands on its page
+abbrev pub HasBodies : Machine → Contents → Type 0
+HasBodies m v = (k : ℕ) → k < m.passes → HasPassBody m.shape v k
+
+-- each image at the end in which a job is open is one from before, or its job body decodes to this job with these numbers
+abbrev pub OpensOnly : Shape → Job → ℕ → ℕ → RackView → RackView → Type 0
+OpensOnly s job passes every old new = (dims : Dims) (image : Contents) → new.stands ≡ Some dims → IsImage dims new image → HasOpenJob image
+    → IsImage dims old image ⊎ HasJobBody s image job passes every
 
 -- The page calls and syncs at most, whatever is answered: by the plan's passes where no job is open or its body is none, else by the open
 -- job's.
 pub record BeginCalls (v : Contents) (passes : ℕ) (old new : RackView) : Type 0 where
-  pub none : IsClosedGate (page_at v 3) → MakesPageCalls ⊥ (7 + 2 * passes) 3 old new
-  pub bare : ((s : Shape) (job : Job) (p every : ℕ) → page_at v 0 ≡ load_page s → ¬ IsJobBody s (page_at v 2) job p every)
+  pub none : HasClosedJob v → MakesPageCalls ⊥ (7 + 2 * passes) 3 old new
+  pub bare : ((s : Shape) (job : Job) (p every : ℕ) → HasLoadBody s v → ¬ HasJobBody s v job p every)
       → MakesPageCalls ⊥ (7 + 2 * passes) 3 old new
-  pub opened : IsOpenGate (page_at v 3) → (s : Shape) (job : Job) (p every : ℕ) → page_at v 0 ≡ load_page s
-      → IsJobBody s (page_at v 2) job p every → MakesPageCalls ⊥ (8 + 2 * p) 1 old new
+  pub opened : HasOpenJob v → (s : Shape) (job : Job) (p every : ℕ) → HasLoadBody s v
+      → HasJobBody s v job p every → MakesPageCalls ⊥ (8 + 2 * p) 1 old new

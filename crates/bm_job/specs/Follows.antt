@@ -3,17 +3,17 @@ use Rattle.std.specs.Prelude.{◌≡◌, ℕ, ◌+◌, ◌*◌, ◌^◌, ◌<◌
 use Rattle.bm_base.specs.declared.shape.Shape.{Shape}
 use Rattle.bm_base.specs.Area.{area_after}
 use Rattle.bm_base.specs.Contents.{Contents, RackUnit, page_at}
-use Rattle.bm_base.specs.Gate.{IsOpenGate}
 use Rattle.bm_base.specs.Records.{record_at}
-use Rattle.bm_base.specs.Shape.{dims_of}
+use Rattle.bm_base.specs.Shape.{dims_of, loads_of}
 use Rattle.bm_gf2.specs.Affine.{affine_image}
 use Rattle.bm_forms.specs.declared.job.Job.{Job}
 use Rattle.bm_forms.specs.declared.pass_form.PassForm.{PassForm}
 use Rattle.bm_forms.specs.PassForm.{passed}
 use Rattle.bm_rack.specs.RackView.{RackView}
 use Rattle.bm_stripe.specs.Units.{IsAreaUnit, record_unit}
-use Rattle.bm_control.specs.Bodies.{loads_of, load_page, IsJobBody, IsPassBody}
-use Rattle.bm_control.specs.Consistent.{pass_body, GatesAre, LoadsMoved}
+use Rattle.bm_control.specs.Bodies.{IsPassBody}
+use Rattle.bm_control.specs.Pages.{pass_body, HasOpenLoad, HasOpenJob, HasLoadBody, HasJobBody}
+use Rattle.bm_control.specs.Consistent.{GatesAre, LoadsMoved}
 use Rattle.bm_control.specs.Progress.{IsCounted}
 use Rattle.bm_control.specs.Sound.{IsSound}
 use Rattle.bm_job.specs.declared.machine.Machine.{Machine}
@@ -39,10 +39,10 @@ pub record IsHeld (s : Shape) (job : Job) (passes done every part slot : ℕ) (v
   pub attached : v.attached ≡ Some (dims_of s)
   pub outside : (u : RackUnit) → (done < passes → ¬ IsAreaUnit s (area_after (done + 1)) u) → v.dirty u ≡ false
   pub durable : AreDurable s done part v
-  pub load_body : page_at v.contents 0 ≡ load_page s
-  pub load_gate : IsOpenGate (page_at v.contents 1)
-  pub job_gate : IsOpenGate (page_at v.contents 3)
-  pub body : IsJobBody s (page_at v.contents 2) job passes every
+  pub load_body : HasLoadBody s v.contents
+  pub load_gate : HasOpenLoad v.contents
+  pub job_gate : HasOpenJob v.contents
+  pub body : HasJobBody s v.contents job passes every
   pub gates : GatesAre v.contents passes done
   pub counted : IsCounted s v.contents every done part slot
 

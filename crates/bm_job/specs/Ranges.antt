@@ -5,7 +5,7 @@ use Rattle.bm_forms.specs.declared.job.Job.{Job}
 use Rattle.bm_forms.specs.declared.pass_form.PassForm.{PassForm}
 use Rattle.bm_forms.specs.PassForm.{IsOfShape}
 use Rattle.bm_forms.specs.PassLimit.{limit_of}
-use Rattle.bm_control.specs.Bodies.{loads_of}
+use Rattle.bm_base.specs.Shape.{loads_of}
 use Rattle.bm_control.specs.State.{PartFits}
 
 -- The numbers of a machine keep their ranges, on every rack, told or not: 1 to Q passes, of which no more are done than there are, and

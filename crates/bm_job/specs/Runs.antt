@@ -8,34 +8,33 @@ use Rattle.bm_base.specs.declared.report.RunReport.{RunReport}
 use Rattle.bm_base.specs.Area.{area_after}
 use Rattle.bm_base.specs.Contents.{Contents, RackUnit, block_unit, page_unit, page_at}
 use Rattle.bm_base.specs.Count.{raised}
-use Rattle.bm_base.specs.Gate.{IsOpenGate, IsClosedGate}
+use Rattle.bm_base.specs.Gate.{IsOpenGate}
 use Rattle.bm_base.specs.Records.{record_at, SameRecords}
-use Rattle.bm_base.specs.Shape.{load_stripes}
+use Rattle.bm_base.specs.Shape.{load_stripes, loads_of}
 use Rattle.bm_forms.specs.declared.job.Job.{Job}
-use Rattle.bm_forms.specs.declared.pass_form.PassForm.{PassForm}
 use Rattle.bm_forms.specs.Job.{meaning}
 use Rattle.bm_forms.specs.PassLimit.{limit_of}
 use Rattle.bm_rack.specs.RackView.{RackView, IsClean}
 use Rattle.bm_rack.specs.Image.{IsImage, InEveryImage}
 use Rattle.bm_stripe.specs.Units.{IsAreaUnit}
 use Rattle.bm_control.specs.declared.state.SlateState.TheVariants.{Loaded, Working}
-use Rattle.bm_control.specs.Bodies.{loads_of, load_page, job_page, IsJobBody}
-use Rattle.bm_control.specs.Consistent.{input_of, pass_body, pass_gate}
-use Rattle.bm_control.specs.Progress.{IsSure}
+use Rattle.bm_control.specs.Consistent.{input_of}
+use Rattle.bm_control.specs.Progress.{IsGone, AreGone}
 use Rattle.bm_control.specs.State.{StateAnswer}
 use Rattle.bm_job.specs.declared.machine.Machine.{Machine}
 use Rattle.bm_job.specs.declared.answers.RunError.{RunError}
 use Rattle.bm_job.specs.declared.answers.RunError.TheVariants.{Failed, NotLoaded, OtherShape, OtherJob, BadPage}
-use Rattle.bm_job.specs.Follows.{IsNext, loads_moved, loads_counted}
+use Rattle.bm_job.specs.Follows.{loads_moved, loads_counted}
 use Rattle.bm_job.specs.Begins.{BeginAnswer}
 use Rattle.bm_job.specs.Turns.{SameJob}
+use Rattle.bm_control.specs.Pages.{job_body, job_gate, pass_gate, slot_body, HasOpenLoad, HasOpenJob, HasClosedJob, HasLoadBody, HasJobBody}
 
 -- ---- what is written
 
 -- a page that shows progress: a pass's gate, or a page of the slots
 abbrev pub IsProgressPage : RackUnit → Type 0
 IsProgressPage (block_unit disk place) = ⊥
-IsProgressPage (page_unit page) = (5 ≤ page) × ((page % 2 ≡ 1) ⊎ (512 ≤ page))
+IsProgressPage (page_unit page) = (pass_gate 0 ≤ page) × ((page % 2 ≡ 1) ⊎ (slot_body 0 ≤ page))
 
 -- what the turns of a job write: areas One and Two, and pages that show progress
 abbrev pub IsWorkUnit : Shape → RackUnit → Type 0
@@ -44,7 +43,7 @@ IsWorkUnit s u = IsAreaUnit s One u ⊎ (IsAreaUnit s Two u ⊎ IsProgressPage u
 -- a page of jobs: each but the load body and its gate
 abbrev pub IsJobsPage : RackUnit → Type 0
 IsJobsPage (block_unit disk place) = ⊥
-IsJobsPage (page_unit page) = 2 ≤ page
+IsJobsPage (page_unit page) = job_body ≤ page
 
 -- what a run writes: areas One and Two, and pages of jobs
 abbrev pub IsRunUnit : Shape → RackUnit → Type 0
@@ -70,6 +69,13 @@ run_pages s passes every = 5 * passes + 4 * passes * marks_of s every + 11
 abbrev pub run_syncs : Shape → ℕ → ℕ → ℕ
 run_syncs s passes every = 2 * passes + 3 * passes * marks_of s every + 4
 
+-- those of a run on any rack, told or not, at most: of the greatest number of passes, with progress made durable after each load
+abbrev pub most_pages : Shape → Job → ℕ
+most_pages s job = 517 + limit_of s job * (2 + 4 * (loads_of s - 1))
+
+abbrev pub most_syncs : Shape → Job → ℕ
+most_syncs s job = 3 + limit_of s job * (2 + 3 * (loads_of s - 1))
+
 -- no more page calls and syncs than these
 pub record CallsFew (pages syncs : ℕ) (old new : RackView) : Type 0 where
   pub pages_low : old.pages ≤ new.pages
@@ -80,11 +86,11 @@ pub record CallsFew (pages syncs : ℕ) (old new : RackView) : Type 0 where
 -- The page calls and syncs at most, whatever is answered: by the plan's passes and the call's number of loads where no job is open or its
 -- body is none, else by the open job's.
 pub record RunCalls (s : Shape) (v : Contents) (passes every : ℕ) (old new : RackView) : Type 0 where
-  pub none : IsClosedGate (page_at v 3) → CallsFew (run_pages s passes every) (run_syncs s passes every) old new
-  pub bare : ((t : Shape) (job : Job) (p q : ℕ) → page_at v 0 ≡ load_page t → ¬ IsJobBody t (page_at v 2) job p q)
+  pub none : HasClosedJob v → CallsFew (run_pages s passes every) (run_syncs s passes every) old new
+  pub bare : ((t : Shape) (job : Job) (p q : ℕ) → HasLoadBody t v → ¬ HasJobBody t v job p q)
       → CallsFew (run_pages s passes every) (run_syncs s passes every) old new
-  pub opened : IsOpenGate (page_at v 3) → (t : Shape) (job : Job) (p q : ℕ) → page_at v 0 ≡ load_page t
-      → IsJobBody t (page_at v 2) job p q → CallsFew (run_pages t p q) (run_syncs t p q) old new
+  pub opened : HasOpenJob v → (t : Shape) (job : Job) (p q : ℕ) → HasLoadBody t v
+      → HasJobBody t v job p q → CallsFew (run_pages t p q) (run_syncs t p q) old new
 
 -- the loads that are left to a machine
 abbrev pub loads_left : Machine → ℕ
@@ -116,17 +122,13 @@ IsReportOf s job passes v r =
     (StateAnswer v (Ok (Loaded s)) × (r.passes ≡ passes) × (r.done_before ≡ 0) × (r.part_before ≡ 0))
     ⊎ ((every slot : ℕ) × StateAnswer v (Ok (Working s job r.passes r.done_before every r.part_before slot)))
 
--- page `page` is the body of one of so many passes, and it is no pass's
-abbrev pub IsBadPass : Shape → ℕ → Contents → ℕ → Type 0
-IsBadPass s passes v page = (k : ℕ) × (k < passes) × (page ≡ pass_body k) × ((form : PassForm) → ¬ IsNext s k v form)
-
 -- neither the contents nor the count of row calls changed
 pub record SameContents (old new : RackView) : Type 0 where
   pub contents : new.contents ≡ old.contents
   pub moves : new.moves ≡ old.moves
 
 -- What is answered of a run: the report, or the refusal, in the order of the tests. A refusal by what the control file tells leaves the
--- contents, and makes no row call. A pass's body that is wrong is found after the start only where this call opened the job.
+-- contents, and makes no row call.
 abbrev pub RunAnswer : Shape → Job → ℕ → ℕ → RackView → RackView → Result RunReport RunError → Type 0
 RunAnswer s job passes every old new (Ok r) = IsReportOf s job passes old.contents r
 RunAnswer s job passes every old new (Err Failed) = Unit {0}
@@ -134,8 +136,7 @@ RunAnswer s job passes every old new (Err NotLoaded) = BeginAnswer s job passes 
 RunAnswer s job passes every old new (Err OtherShape) = BeginAnswer s job passes every old.contents (Err OtherShape) × SameContents old new
 RunAnswer s job passes every old new (Err OtherJob) = BeginAnswer s job passes every old.contents (Err OtherJob) × SameContents old new
 RunAnswer s job passes every old new (Err (BadPage page)) =
-    (BeginAnswer s job passes every old.contents (Err (BadPage page)) × SameContents old new)
-    ⊎ (StateAnswer old.contents (Ok (Loaded s)) × IsBadPass s passes new.contents page)
+    BeginAnswer s job passes every old.contents (Err (BadPage page)) × SameContents old new
 
 -- The refusals by what the control file tells leave contents and row calls also on a rack that tells nothing.
 abbrev pub RefusalKeeps : RackView → RackView → RunError → Type 0
@@ -147,9 +148,9 @@ RefusalKeeps old new (BadPage page) = Unit {0}
 
 -- a shape is loaded, and no job or this one is open
 pub record IsRunnable (s : Shape) (job : Job) (v : Contents) : Type 0 where
-  pub load_gate : IsOpenGate (page_at v 1)
-  pub load_body : page_at v 0 ≡ load_page s
-  pub job_gate : IsClosedGate (page_at v 3) ⊎ ((passes every : ℕ) × IsJobBody s (page_at v 2) job passes every)
+  pub load_gate : HasOpenLoad v
+  pub load_body : HasLoadBody s v
+  pub job_gate : HasClosedJob v ⊎ ((passes every : ℕ) × HasJobBody s v job passes every)
 
 -- ---- what stands after a run
 
@@ -158,47 +159,51 @@ pub record IsRunnable (s : Shape) (job : Job) (v : Contents) : Type 0 where
 pub record RunDone (s : Shape) (job : Job) (passes every : ℕ) (r : RunReport) (old new : RackView) : Type 0 where
   pub records : SameRecords (2 ^ s.n) (record_at new.contents s (area_after r.passes)) (meaning s.n job (input_of old.contents s))
   pub input : SameRecords (2 ^ s.n) (input_of new.contents s) (input_of old.contents s)
-  pub load_body : page_at new.contents 0 ≡ load_page s
-  pub load_gate : IsOpenGate (page_at new.contents 1)
-  pub job_gate : IsOpenGate (page_at new.contents 3)
+  pub load_body : HasLoadBody s new.contents
+  pub load_gate : HasOpenLoad new.contents
+  pub job_gate : HasOpenJob new.contents
   pub loads : ℕ
-  pub body : IsJobBody s (page_at new.contents 2) job r.passes loads
+  pub body : HasJobBody s new.contents job r.passes loads
   pub gates : (k : ℕ) → k < r.passes → IsOpenGate (page_at new.contents (pass_gate k))
   pub clean : IsClean new
-  pub fresh : IsClosedGate (page_at old.contents 3) → (r.passes ≡ passes) × (loads ≡ every)
-  pub stored : IsOpenGate (page_at old.contents 3) → page_at new.contents 2 ≡ page_at old.contents 2
+  pub fresh : HasClosedJob old.contents → (r.passes ≡ passes) × (loads ≡ every)
+  pub stored : HasOpenJob old.contents → page_at new.contents job_body ≡ page_at old.contents job_body
 
 -- How far a run came that the rack's failure ended. Its row calls are paid for by progress that no stop loses, but for fewer loads than
--- those between two moments at which progress is made durable, and one that failed. Where a stop may leave no open job it made none.
+-- those between two moments at which progress is made durable, and one that failed. Where another shape is loaded, and where a stop may
+-- leave no open job, it made none.
 pub record RunFailed (s : Shape) (old new : RackView) : Type 0 where
-  pub grows : (before after : ℕ) → IsSure old before → IsSure new after → before ≤ after
-  pub rows : InEveryImage (λ v. IsOpenGate (page_at v 3)) new
-      → (job : Job) (passes every : ℕ) → IsJobBody s (page_at new.contents 2) job passes every
-      → (before after : ℕ) → IsSure old before → IsSure new after → new.moves ≤ raised old.moves (load_rows s (after - before + every))
-  pub none : (dims : Dims) (image : Contents) → new.stands ≡ Some dims → IsImage dims new image → IsClosedGate (page_at image 3)
+  -- what was gone in every image before is gone in every image
+  pub grows : (least : ℕ) → AreGone least old → AreGone least new
+  -- and each image pays for the row calls
+  pub rows : InEveryImage HasOpenJob new → (job : Job) (passes every : ℕ) → HasJobBody s new.contents job passes every
+      → (least : ℕ) → AreGone least old
+      → InEveryImage (λ image. (gone : ℕ) → IsGone image gone → new.moves ≤ raised old.moves (load_rows s (gone - least + every))) new
+  pub other_shape : (t : Shape) → HasLoadBody t new.contents → t ≢ s → new.moves ≡ old.moves
+  pub none : (dims : Dims) (image : Contents) → new.stands ≡ Some dims → IsImage dims new image → HasClosedJob image
       → new.moves ≡ old.moves
 
 -- an image in which a job is open has this page as its job body
 pub record HasOpenBody (dims : Dims) (v : RackView) (page : List ℕ) : Type 0 where
   pub image : Contents
   pub is_image : IsImage dims v image
-  pub opened : IsOpenGate (page_at image 3)
-  pub body : page_at image 2 ≡ page
+  pub opened : HasOpenJob image
+  pub body : page_at image job_body ≡ page
 
--- The jobs that images at the end have open: each has a job body from before, or that of the call. An image in which the body is none of
--- this job's is one from before.
-pub record KeepsJobs (job : Job) (page : List ℕ) (old new : RackView) : Type 0 where
-  pub bodies : (dims : Dims) (image : Contents) → new.stands ≡ Some dims → IsImage dims new image → IsOpenGate (page_at image 3)
-      → HasOpenBody dims old (page_at image 2) ⊎ (page_at image 2 ≡ page)
-  pub others : (dims : Dims) (image : Contents) → new.stands ≡ Some dims → IsImage dims new image → IsOpenGate (page_at image 3)
-      → ((t : Shape) (passes every : ℕ) → page_at image 2 ≢ job_page t job passes every) → IsImage dims old image
+-- The jobs that images at the end have open: each has a job body from before, or that of the call. An image whose job body decodes to
+-- another job, of whatever shape, is one from before.
+pub record KeepsJobs (s : Shape) (job : Job) (passes every : ℕ) (old new : RackView) : Type 0 where
+  pub bodies : (dims : Dims) (image : Contents) → new.stands ≡ Some dims → IsImage dims new image → HasOpenJob image
+      → HasOpenBody dims old (page_at image job_body) ⊎ HasJobBody s image job passes every
+  pub others : (dims : Dims) (image : Contents) → new.stands ≡ Some dims → IsImage dims new image → HasOpenJob image
+      → (t : Shape) (other : Job) (p q : ℕ) → HasJobBody t image other p q → other ≢ job → IsImage dims old image
 
 -- An open job stays open with its body, and no stop changes that.
 pub record KeepsOpenJob (old new : RackView) : Type 0 where
-  pub body : page_at new.contents 2 ≡ page_at old.contents 2
-  pub gate : page_at new.contents 3 ≡ page_at old.contents 3
-  pub body_clean : new.dirty (page_unit 2) ≡ false
-  pub gate_clean : new.dirty (page_unit 3) ≡ false
+  pub body : page_at new.contents job_body ≡ page_at old.contents job_body
+  pub gate : page_at new.contents job_gate ≡ page_at old.contents job_gate
+  pub body_clean : new.dirty (page_unit job_body) ≡ false
+  pub gate_clean : new.dirty (page_unit job_gate) ≡ false
 
 -- no fewer row calls than before, and at most so many more
 pub record MovesFew (rows : ℕ) (old new : RackView) : Type 0 where

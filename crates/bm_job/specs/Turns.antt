@@ -1,14 +1,11 @@
 -- What a turn does.
-use Rattle.std.specs.Prelude.{Ok, Err, ◌≡◌, ◌≢◌, ◌⊎◌, ℕ, ◌+◌, ◌%◌, ◌<◌, ◌≤◌, ◌==◌, if◌then◌else◌, Result, Option, Some, None, IsSome, IsTrue, IsFalse}
+use Rattle.std.specs.Prelude.{Ok, Err, ◌≡◌, ◌≢◌, ◌⊎◌, ℕ, ◌+◌, ◌%◌, ◌<◌, ◌==◌, if◌then◌else◌, Result, Option, Some, None, IsSome, IsTrue, IsFalse}
 use Rattle.bm_base.specs.Area.{area_after}
 use Rattle.bm_base.specs.Contents.{Contents, RackUnit}
-use Rattle.bm_base.specs.Count.{raised}
 use Rattle.bm_forms.specs.declared.pass_form.PassForm.{PassForm}
-use Rattle.bm_rack.specs.RackView.{RackView}
 use Rattle.bm_rack.specs.Calls.{IsPage}
 use Rattle.bm_stripe.specs.Units.{IsAreaUnit}
-use Rattle.bm_control.specs.Bodies.{loads_of}
-use Rattle.bm_control.specs.Consistent.{pass_body, pass_gate}
+use Rattle.bm_base.specs.Shape.{loads_of}
 use Rattle.bm_control.specs.PageCalls.{IsSlotPage}
 use Rattle.bm_job.specs.declared.machine.Machine.{Machine}
 use Rattle.bm_job.specs.declared.answers.Turn.{Turn}
@@ -16,6 +13,7 @@ use Rattle.bm_job.specs.declared.answers.Turn.TheVariants.{Went, Finished}
 use Rattle.bm_job.specs.declared.answers.RunError.{RunError}
 use Rattle.bm_job.specs.declared.answers.RunError.TheVariants.{Failed, NotLoaded, OtherShape, OtherJob, BadPage}
 use Rattle.bm_job.specs.Follows.{IsNext}
+use Rattle.bm_control.specs.Pages.{pass_body, pass_gate, no_slot}
 
 -- the slot that progress is written to: one that is not counted, and slot 0 where none is
 abbrev pub free_slot : ℕ → ℕ
@@ -40,7 +38,7 @@ pub record SameJob (old new : Machine) : Type 0 where
 pub record IsNextOf (old new : Machine) : Type 0 where
   pub same : SameJob old new
   pub alive : IsTrue new.alive
-  pub last : IsLastLoad old → (new.done ≡ old.done + 1) × (new.load ≡ 0) × (new.part ≡ 0) × (new.slot ≡ 2) × (new.form ≡ None)
+  pub last : IsLastLoad old → (new.done ≡ old.done + 1) × (new.load ≡ 0) × (new.part ≡ 0) × (new.slot ≡ no_slot) × (new.form ≡ None)
   pub before : old.load + 1 < loads_of old.shape → (new.done ≡ old.done) × (new.load ≡ old.load + 1) × IsSome new.form
   pub marked : IsMarked old → (new.part ≡ old.load + 1) × (new.slot ≡ free_slot old.slot)
   pub unmarked : old.load + 1 < loads_of old.shape → (old.load + 1) % old.every ≢ 0 → (new.part ≡ old.part) × (new.slot ≡ old.slot)
@@ -61,6 +59,16 @@ IsTurnRefusal NotLoaded = ⊥
 IsTurnRefusal OtherShape = ⊥
 IsTurnRefusal OtherJob = ⊥
 IsTurnRefusal (BadPage page) = Unit {0}
+
+-- a form that a machine keeps is this one
+abbrev pub KeepsForm : PassForm → Option PassForm → Type 0
+KeepsForm form kept = (other : PassForm) → kept ≡ Some other → other ≡ form
+
+-- what a turn read: a form that the body of the pass under way decodes to, and the machine keeps no other
+pub record HasRead (old new : Machine) (v : Contents) : Type 0 where
+  pub form : PassForm
+  pub body : IsNext old.shape old.done v form
+  pub kept : KeepsForm form new.form
 
 -- page `page` is the body of the pass under way, and it is no pass's
 abbrev pub IsBadBody : Machine → Contents → ℕ → Type 0
@@ -88,13 +96,3 @@ durable_pages m = if m.load + 1 == loads_of m.shape then 1 else (if (m.load + 1)
 -- and the syncs
 abbrev pub durable_syncs : Machine → ℕ
 durable_syncs m = if m.load + 1 == loads_of m.shape then 2 else (if (m.load + 1) % m.every == 0 then 3 else 0)
-
--- So many row calls where it succeeds, and no more row calls, page calls and syncs than these.
-pub record MakesCalls (succeeds : Type 0) (rows pages syncs : ℕ) (old new : RackView) : Type 0 where
-  pub done : succeeds → new.moves ≡ raised old.moves rows
-  pub moves_low : old.moves ≤ new.moves
-  pub moves_high : new.moves ≤ raised old.moves rows
-  pub pages_low : old.pages ≤ new.pages
-  pub pages_high : new.pages ≤ raised old.pages pages
-  pub syncs_low : old.syncs ≤ new.syncs
-  pub syncs_high : new.syncs ≤ raised old.syncs syncs

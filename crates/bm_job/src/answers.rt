@@ -1,4 +1,5 @@
 //! What a machine answers.
+
 ghost use Rattle.std.specs.Prelude.{◌≡◌};
 ghost use Rattle.bm_job.specs.Errors.{run_error};
 

@@ -1,26 +1,29 @@
 //! Beginning a job, or going on with one that is open.
-ghost use Rattle.std.specs.Prelude.{◌≡◌, ◌≢◌, ◌+◌, ◌*◌, ◌<◌, ℕ, IsTrue, IsErr, OnOk, IfOk, IfErr, IsErrOf, IsOkUnless, Some, length};
+
+ghost use Rattle.std.specs.Prelude.{◌≡◌, ◌≢◌, ◌+◌, ◌*◌, ◌<◌, ◌≤◌, ℕ, IsTrue, IsErr, OnOk, IfOk};
+ghost use Rattle.std.specs.Prelude.{IfErr, IsErrOf, IsOkUnless, Some, length};
 ghost use Rattle.bm_base.specs.declared.dims.Dims.{Dims};
-ghost use Rattle.bm_base.specs.Contents.{Contents, page_at};
-ghost use Rattle.bm_base.specs.Gate.{IsOpenGate, IsClosedGate};
-ghost use Rattle.bm_base.specs.Shape.{dims_of};
+ghost use Rattle.bm_base.specs.Contents.{Contents};
+ghost use Rattle.bm_base.specs.Shape.{dims_of, loads_of};
 ghost use Rattle.bm_rack.specs.RackView.{IsAttached, IsClean};
 ghost use Rattle.bm_rack.specs.Frames.{RackCall, DirtiesOnly};
 ghost use Rattle.bm_rack.specs.Image.{IsImage, SameInput, InEveryImage};
 ghost use Rattle.bm_forms.specs.Plan.{StandsFor};
-ghost use Rattle.bm_control.specs.Bodies.{loads_of, load_page, job_page, JobBodyFits};
+ghost use Rattle.bm_control.specs.Bodies.{JobBodyFits};
+ghost use Rattle.bm_control.specs.Pages.{HasOpenJob, HasClosedJob, HasJobBody};
 ghost use Rattle.bm_control.specs.PageCalls.{MakesPageCalls, IsStartPage};
 ghost use Rattle.bm_control.specs.Progress.{IsGone};
 ghost use Rattle.bm_control.specs.Sound.{IsSound};
 ghost use Rattle.bm_control.specs.State.{StateFits};
 ghost use Rattle.bm_job.specs.Follows.{Follows, loads_moved};
-ghost use Rattle.bm_job.specs.Begins.{LookAnswer, LookCounts, LookPages, BeginAnswer, ResumeAnswer, IsFresh, IsStart, IsLoadedAlone, OpensOnly, BeginCalls};
+ghost use Rattle.bm_job.specs.Begins.{SettledAnswer, SettledCounts, SettledPages, BeginAnswer};
+ghost use Rattle.bm_job.specs.Begins.{ResumeAnswer, IsFresh, IsStart, IsLoadedAlone, HasBodies};
+ghost use Rattle.bm_job.specs.Begins.{OpensOnly, BeginCalls};
 
 use crate::answers::RunError;
-use crate::machine::{Machine, NO_SLOT};
-use crate::same::{same_job, same_shape};
-use bm_base::Shape;
-use bm_control::{SlateState, read_state, start_job};
+use crate::machine::Machine;
+use bm_base::{NO_SLOT, Shape};
+use bm_control::{SlateState, read_state, same_job, same_shape, start_job};
 use bm_forms::{Job, Plan};
 use bm_rack::Rack;
 
@@ -53,6 +56,7 @@ impl Machine {
             → IfOk result (λ m. IsGone (R.view rack.old).contents (loads_moved m)) }
         ensures follows { IsTrue R.tells_stands → IsTrue R.tells_contents → IsSound (R.view rack.old)
             → IfOk result (λ m. Follows m (R.view rack.new)) }
+        ensures bodies { IsTrue R.tells_contents → IfOk result (λ m. HasBodies m (R.view rack.new).contents) }
         ensures clean { OnOk result (IsClean (R.view rack.new)) }
         ensures sound { IsTrue R.tells_stands → IsTrue R.tells_contents → IsSound (R.view rack.old)
             → IsSound (R.view rack.new) }
@@ -61,21 +65,22 @@ impl Machine {
         ensures kept { IfErr result (λ e. e ≢ RunError.Failed
             → (R.view rack.new).contents ≡ (R.view rack.old).contents) }
         // Where a job is open, no exit changes anything or leaves it dirty.
-        ensures unchanged { IsTrue R.tells_contents → IsOpenGate (page_at (R.view rack.old).contents 3)
+        ensures unchanged { IsTrue R.tells_contents → HasOpenJob (R.view rack.old).contents
             → DirtiesOnly (λ u. ⊥) (R.view rack.old) (R.view rack.new) }
         ensures images { IsTrue R.tells_stands → IsTrue R.tells_contents
-            → OpensOnly (job_page shape.now job.now (length plan.now.forms) every)
-            (R.view rack.old) (R.view rack.new) }
+            → OpensOnly shape.now job.now (length plan.now.forms) every (R.view rack.old) (R.view rack.new) }
         ensures call { RackCall (IsStartPage (length plan.now.forms) (every < loads_of shape.now))
             (IsErrOf result RunError.Failed) (R.view rack.old) (R.view rack.new) }
         ensures input { SameInput (dims_of shape.now) (R.view rack.old) (R.view rack.new) }
         ensures counts { IfOk result (λ m. MakesPageCalls ⊥ (8 + 2 * m.passes) 3 (R.view rack.old) (R.view rack.new)) }
+        // On every rack, told or not.
+        ensures most { MakesPageCalls ⊥ 516 3 (R.view rack.old) (R.view rack.new) }
         ensures pages { IsTrue R.tells_contents
             → BeginCalls (R.view rack.old).contents (length plan.now.forms) (R.view rack.old) (R.view rack.new) }
         ensures moves { (R.view rack.new).moves ≡ (R.view rack.old).moves }
     {
-        let state = look(rack)?;
-        match resumed(shape, job, &state)? {
+        let state = settle_and_read(rack)?;
+        match machine_of(shape, job, &state)? {
             Some(machine) => Ok(machine),
             None => start(rack, shape, job, plan, every),
         }
@@ -83,9 +88,9 @@ impl Machine {
 }
 
 // Makes durable what was written, and reads what the control file tells.
-fn look<R: Rack>(rack: &mut R) -> Result<SlateState, RunError>
+fn settle_and_read<R: Rack>(rack: &mut R) -> Result<SlateState, RunError>
     requires { IsAttached (R.view rack.old).attached }
-    ensures answer { IsTrue R.tells_contents → LookAnswer (R.view rack.old).contents result }
+    ensures answer { IsTrue R.tells_contents → SettledAnswer (R.view rack.old).contents result }
     ensures fits { IfOk result StateFits }
     ensures clean { OnOk result (IsClean (R.view rack.new)) }
     ensures contents { (R.view rack.new).contents ≡ (R.view rack.old).contents }
@@ -93,9 +98,10 @@ fn look<R: Rack>(rack: &mut R) -> Result<SlateState, RunError>
         → IsImage dims (R.view rack.old) image }
     ensures sound { IsSound (R.view rack.old) → IsSound (R.view rack.new) }
     ensures call { RackCall (λ u. ⊥) (IsErrOf result RunError.Failed) (R.view rack.old) (R.view rack.new) }
-    ensures counts { IfOk result (λ state. LookCounts state (R.view rack.old) (R.view rack.new)) }
+    ensures counts { IfOk result (λ state. SettledCounts state (R.view rack.old) (R.view rack.new)) }
+    ensures most { MakesPageCalls ⊥ 516 1 (R.view rack.old) (R.view rack.new) }
     ensures pages { IsTrue R.tells_contents
-        → LookPages (R.view rack.old).contents (R.view rack.old) (R.view rack.new) }
+        → SettledPages (R.view rack.old).contents (R.view rack.old) (R.view rack.new) }
     ensures moves { (R.view rack.new).moves ≡ (R.view rack.old).moves }
 {
     rack.sync()?;
@@ -103,7 +109,7 @@ fn look<R: Rack>(rack: &mut R) -> Result<SlateState, RunError>
 }
 
 // The machine of an open job, or nothing where it is to be opened, or why it can be neither.
-fn resumed(shape: &Shape, job: &Job, state: &SlateState) -> Result<Option<Machine>, RunError>
+fn machine_of(shape: &Shape, job: &Job, state: &SlateState) -> Result<Option<Machine>, RunError>
     requires { StateFits state.now }
     ensures { ResumeAnswer shape.now job.now state.now result }
 {
@@ -163,18 +169,19 @@ fn start<R: Rack>(
     ensures follows { IsTrue R.tells_stands → IsTrue R.tells_contents
         → IsSound (R.view rack.old) → IsClean (R.view rack.old) → IsLoadedAlone shape.now (R.view rack.old).contents
         → IfOk result (λ m. Follows m (R.view rack.new)) }
+    ensures bodies { IsTrue R.tells_contents → IfOk result (λ m. HasBodies m (R.view rack.new).contents) }
     ensures sound { IsTrue R.tells_stands → IsTrue R.tells_contents
         → IsSound (R.view rack.old) → IsClean (R.view rack.old) → IsLoadedAlone shape.now (R.view rack.old).contents
         → IsSound (R.view rack.new) }
     ensures images { IsTrue R.tells_stands → IsTrue R.tells_contents → IsClean (R.view rack.old)
-        → IsClosedGate (page_at (R.view rack.old).contents 3)
-        → InEveryImage (λ v. IsOpenGate (page_at v 3)
-        → page_at v 2 ≡ job_page shape.now job.now (length plan.now.forms) every) (R.view rack.new) }
+        → HasClosedJob (R.view rack.old).contents
+        → InEveryImage (λ v. HasOpenJob v → HasJobBody shape.now v job.now (length plan.now.forms) every) (R.view rack.new) }
     ensures clean { OnOk result (IsClean (R.view rack.new)) }
     ensures failed { IsOkUnless result RunError.Failed }
     ensures call { RackCall (IsStartPage (length plan.now.forms) (every < loads_of shape.now))
         (IsErrOf result RunError.Failed) (R.view rack.old) (R.view rack.new) }
     ensures counts { MakesPageCalls ⊥ (4 + 2 * length plan.now.forms) 2 (R.view rack.old) (R.view rack.new) }
+    ensures few { length plan.now.forms ≤ 254 }
 {
     start_job(rack, shape, job, plan, every)?;
     Ok(Machine {

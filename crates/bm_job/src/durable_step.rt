@@ -1,19 +1,22 @@
 //! Progress that is made durable after a load.
-ghost use Rattle.std.specs.Prelude.{◌≡◌, ◌≢◌, ◌+◌, ◌%◌, ◌<◌, ◌≤◌, ℕ, IsTrue, IfOk, IsErrOf, IsOkUnless, Some};
-ghost use Rattle.bm_base.specs.Shape.{dims_of};
+
+ghost use Rattle.std.specs.Prelude.{◌≡◌, ◌≢◌, ◌+◌, ◌%◌, ◌<◌, ◌≤◌, ℕ, IsTrue, IfOk, IsErrOf};
+ghost use Rattle.std.specs.Prelude.{IsOkUnless, Some, None};
+ghost use Rattle.bm_base.specs.Shape.{dims_of, loads_of};
 ghost use Rattle.bm_forms.specs.PassForm.{IsOfShape};
 ghost use Rattle.bm_rack.specs.RackView.{RackView};
 ghost use Rattle.bm_rack.specs.Frames.{RackCall};
 ghost use Rattle.bm_rack.specs.Calls.{IsPage};
-ghost use Rattle.bm_control.specs.Bodies.{loads_of};
-ghost use Rattle.bm_control.specs.Consistent.{pass_gate};
 ghost use Rattle.bm_control.specs.PageCalls.{MakesPageCalls, IsSlotPage};
 ghost use Rattle.bm_control.specs.Sound.{IsSound};
 ghost use Rattle.bm_job.specs.Follows.{Follows, Holds, IsNext};
-ghost use Rattle.bm_job.specs.Turns.{IsNextOf, IsLastLoad, IsMarked, IsTurnUnit, free_slot, durable_pages, durable_syncs};
+ghost use Rattle.bm_job.specs.Turns.{KeepsForm, IsNextOf, IsLastLoad, IsMarked, IsTurnUnit};
+ghost use Rattle.bm_job.specs.Turns.{free_slot, durable_pages, durable_syncs};
+ghost use Rattle.bm_control.specs.Pages.{pass_gate};
 
 use crate::answers::RunError;
-use crate::machine::{Machine, NO_SLOT};
+use crate::machine::Machine;
+use bm_base::NO_SLOT;
 use bm_control::{mark_part, open_gate};
 use bm_forms::PassForm;
 use bm_rack::Rack;
@@ -33,6 +36,7 @@ fn finish_pass<R: Rack>(machine: &Machine, rack: &mut R) -> Result<Machine, RunE
     requires last { IsLastLoad machine.now }
     requires alive { IsTrue machine.now.alive }
     ensures next { IfOk result (λ next. IsNextOf machine.now next) }
+    ensures form { IfOk result (λ next. next.form ≡ None) }
     ensures follows { IsTrue R.tells_stands → IsTrue R.tells_contents
         → Holds machine.now (machine.now.load + 1) (R.view rack.old)
         → IfOk result (λ next. Follows next (R.view rack.new)) }
@@ -70,6 +74,7 @@ fn mark_loads<R: Rack>(
     requires of_shape { IsOfShape machine.now.shape form.now }
     requires alive { IsTrue machine.now.alive }
     ensures next { IfOk result (λ next. IsNextOf machine.now next) }
+    ensures form { IfOk result (λ next. KeepsForm form.now next.form) }
     ensures follows { IsTrue R.tells_stands → IsTrue R.tells_contents
         → Holds machine.now (machine.now.load + 1) (R.view rack.old)
         → IsNext machine.now.shape machine.now.done (R.view rack.old).contents form.now
@@ -99,13 +104,14 @@ fn mark_loads<R: Rack>(
 }
 
 // The machine after a load that ends no pass and is not counted.
-fn went_on(machine: &Machine, form: &PassForm) -> Machine
+fn after_load(machine: &Machine, form: &PassForm) -> Machine
     requires within { machine.now.load + 1 < loads_of machine.now.shape }
     requires unmarked { (machine.now.load + 1) % machine.now.every ≢ 0 }
     requires left { machine.now.done < machine.now.passes }
     requires of_shape { IsOfShape machine.now.shape form.now }
     requires alive { IsTrue machine.now.alive }
     ensures next { IsNextOf machine.now result }
+    ensures form { KeepsForm form.now result.form }
     ensures follows { (v : RackView) → Holds machine.now (machine.now.load + 1) v
         → IsNext machine.now.shape machine.now.done v.contents form.now → Follows result v }
 {
@@ -135,6 +141,7 @@ pub fn make_durable<R: Rack>(
     requires of_shape { IsOfShape machine.now.shape form.now }
     requires alive { IsTrue machine.now.alive }
     ensures next { IfOk result (λ next. IsNextOf machine.now next) }
+    ensures form { IfOk result (λ next. KeepsForm form.now next.form) }
     ensures follows { IsTrue R.tells_stands → IsTrue R.tells_contents
         → Holds machine.now (machine.now.load + 1) (R.view rack.old)
         → IsNext machine.now.shape machine.now.done (R.view rack.old).contents form.now
@@ -152,7 +159,7 @@ pub fn make_durable<R: Rack>(
         return finish_pass(machine, rack);
     }
     if load % machine.every != 0 {
-        return Ok(went_on(machine, form));
+        return Ok(after_load(machine, form));
     }
     mark_loads(machine, form, rack)
 }

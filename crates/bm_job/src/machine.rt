@@ -1,12 +1,10 @@
 //! A job that is under way on a rack.
+
 ghost use Rattle.std.specs.Prelude.{◌≡◌};
 ghost use Rattle.bm_job.specs.Ranges.{MachineFits, FormFits};
 
 use bm_base::Shape;
 use bm_forms::{Job, PassForm};
-
-/// The slot of a machine where none is counted.
-pub const NO_SLOT: u8 = 2;
 
 /// A job that is under way on a rack, and how far it is. It takes no memory.
 #[derive(Clone, Copy, Debug)]

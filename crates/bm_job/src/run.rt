@@ -1,20 +1,26 @@
 //! A whole run of a job.
-ghost use Rattle.std.specs.Prelude.{◌≡◌, ◌≢◌, ◌+◌, ◌*◌, ◌<◌, ◌≤◌, ℕ, IsTrue, IsOk, OnErr, IfOk, IfErr, IsErrOf, IsOkUnless, Some, length};
-ghost use Rattle.bm_base.specs.Contents.{page_at};
+
+ghost use Rattle.std.specs.Prelude.{◌≡◌, ◌≢◌, ◌+◌, ◌*◌, ◌<◌, ◌≤◌, ℕ, IsTrue, IsOk, OnErr, IfOk};
+ghost use Rattle.std.specs.Prelude.{IfErr, IsErrOf, IsOkUnless, Some, length};
 ghost use Rattle.bm_base.specs.Count.{raised};
-ghost use Rattle.bm_base.specs.Gate.{IsOpenGate};
 ghost use Rattle.bm_base.specs.Shape.{dims_of, stripes};
 ghost use Rattle.bm_bufs.specs.Bufs.{FitsShape};
 ghost use Rattle.bm_forms.specs.Plan.{StandsFor};
 ghost use Rattle.bm_forms.specs.PassLimit.{limit_of};
-ghost use Rattle.bm_rack.specs.Frames.{RackCall, DirtiesOnly};
+ghost use Rattle.bm_rack.specs.Frames.{RackCall, DirtiesOnly, MakesCalls};
 ghost use Rattle.bm_rack.specs.Image.{SameInput, InEveryImage};
-ghost use Rattle.bm_control.specs.Bodies.{job_page, JobBodyFits};
+ghost use Rattle.bm_control.specs.Bodies.{JobBodyFits};
+ghost use Rattle.bm_control.specs.Pages.{HasOpenJob};
 ghost use Rattle.bm_control.specs.Progress.{IsGone};
 ghost use Rattle.bm_control.specs.Sound.{IsSound};
+ghost use Rattle.bm_job.specs.Begins.{HasBodies};
 ghost use Rattle.bm_job.specs.Follows.{Follows, loads_moved};
-ghost use Rattle.bm_job.specs.Turns.{IsTurnRefusal, MakesCalls};
-ghost use Rattle.bm_job.specs.Runs.{IsWorkUnit, IsRunUnit, turn_pages, turn_syncs, RunCalls, loads_left, load_rows, ReportFits, IsBadPass, RunAnswer, RefusalKeeps, IsRunnable, RunDone, RunFailed, KeepsJobs, KeepsOpenJob, MovesFew, IsReached, IsEnd};
+ghost use Rattle.bm_job.specs.Turns.{IsTurnRefusal};
+ghost use Rattle.bm_job.specs.Runs.{IsWorkUnit, IsRunUnit, turn_pages, turn_syncs, most_pages};
+ghost use Rattle.bm_job.specs.Runs.{most_syncs, CallsFew, RunCalls, loads_left, load_rows};
+ghost use Rattle.bm_job.specs.Runs.{ReportFits, RunAnswer, RefusalKeeps, IsRunnable, RunDone};
+ghost use Rattle.bm_job.specs.Runs.{RunFailed, KeepsJobs, KeepsOpenJob, MovesFew, IsReached};
+ghost use Rattle.bm_job.specs.Runs.{IsEnd};
 
 use crate::answers::RunError;
 use crate::machine::Machine;
@@ -36,7 +42,7 @@ use bm_rack::Rack;
 /// the last pass, the input as it was, and nothing dirty.
 ///
 /// The refusals are those of `Machine::begin`, and then `Failed`. `NotLoaded`, `OtherShape`, `OtherJob`
-/// and a `BadPage` that `begin` finds leave the contents, and make no row call. At each exit a rack
+/// and `BadPage` leave the contents, and make no row call. At each exit a rack
 /// that was sound is sound, with the input and the load's pages as they were: so the run may be made
 /// again, and it goes on from the progress that was made durable. Beside the loads of that progress
 /// a failure costs the row calls of `every` loads at most.
@@ -59,6 +65,7 @@ pub fn run_job<R: Rack>(
     ensures report { IfOk result (λ r. ReportFits shape.now job.now r) }
     ensures moves { IfOk result (λ r. (R.view rack.new).moves ≡ raised (R.view rack.old).moves r.moves) }
     ensures most { MovesFew (2 * stripes shape.now * limit_of shape.now job.now) (R.view rack.old) (R.view rack.new) }
+    ensures calls_most { CallsFew (most_pages shape.now job.now) (most_syncs shape.now job.now) (R.view rack.old) (R.view rack.new) }
     ensures kept { IfErr result (λ e. RefusalKeeps (R.view rack.old) (R.view rack.new) e) }
     // Where the job was done.
     ensures done { IsTrue R.tells_stands → IsTrue R.tells_contents → IsSound (R.view rack.old)
@@ -71,13 +78,12 @@ pub fn run_job<R: Rack>(
         → IsSound (R.view rack.new) }
     ensures input { SameInput (dims_of shape.now) (R.view rack.old) (R.view rack.new) }
     ensures images { IsTrue R.tells_stands → IsTrue R.tells_contents → IsSound (R.view rack.old)
-        → KeepsJobs job.now (job_page shape.now job.now (length plan.now.forms) every)
-        (R.view rack.old) (R.view rack.new) }
-    ensures unchanged { IsTrue R.tells_contents → IsOpenGate (page_at (R.view rack.old).contents 3)
+        → KeepsJobs shape.now job.now (length plan.now.forms) every (R.view rack.old) (R.view rack.new) }
+    ensures unchanged { IsTrue R.tells_contents → HasOpenJob (R.view rack.old).contents
         → DirtiesOnly (IsWorkUnit shape.now) (R.view rack.old) (R.view rack.new) }
     // Where a job is open in every image it stays so.
     ensures settled { IsTrue R.tells_stands → IsTrue R.tells_contents → IsSound (R.view rack.old)
-        → InEveryImage (λ v. IsOpenGate (page_at v 3)) (R.view rack.old)
+        → InEveryImage HasOpenJob (R.view rack.old)
         → KeepsOpenJob (R.view rack.old) (R.view rack.new) }
     ensures call { RackCall (IsRunUnit shape.now) (IsErrOf result RunError.Failed)
         (R.view rack.old) (R.view rack.new) }
@@ -106,10 +112,8 @@ fn take_turns<R: Rack>(start: &Machine, rack: &mut R, bufs: &mut Bufs) -> Result
         → Follows start.now (R.view rack.old) → IfOk result (λ end. Follows end (R.view rack.new)) }
     ensures sound { IsTrue R.tells_stands → IsTrue R.tells_contents
         → Follows start.now (R.view rack.old) → IsSound (R.view rack.new) }
-    ensures good { IsTrue R.tells_stands → IsTrue R.tells_contents
-        → Follows start.now (R.view rack.old) → (page : ℕ) → ¬ IsErrOf result (RunError.BadPage page) }
-    ensures bad { IsTrue R.tells_contents → (page : ℕ) → IsErrOf result (RunError.BadPage page)
-        → IsBadPass start.now.shape start.now.passes (R.view rack.old).contents page }
+    ensures good { IsTrue R.tells_contents → HasBodies start.now (R.view rack.old).contents
+        → (page : ℕ) → ¬ IsErrOf result (RunError.BadPage page) }
     ensures reached { IsTrue R.tells_stands → IsTrue R.tells_contents → Follows start.now (R.view rack.old)
         → OnErr result (InEveryImage (λ v. (gone : ℕ) → IsGone v gone
         → IsReached start.now gone (R.view rack.old) (R.view rack.new)) (R.view rack.new)) }

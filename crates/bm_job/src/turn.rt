@@ -1,18 +1,22 @@
 //! One turn of a machine.
-ghost use Rattle.std.specs.Prelude.{◌≡◌, ◌≢◌, ◌+◌, ◌*◌, ◌<◌, ◌≤◌, ◌↔◌, ℕ, IsTrue, IsFalse, IsOk, IsErr, OnOk, OnErr, IfOk, IfErr, IsErrOf, Ok, Some};
+
+ghost use Rattle.std.specs.Prelude.{◌≡◌, ◌≢◌, ◌+◌, ◌*◌, ◌<◌, ◌≤◌, ◌↔◌, ℕ, IsTrue, IsFalse, IsOk};
+ghost use Rattle.std.specs.Prelude.{IsErr, OnOk, OnErr, IfOk, IfErr, IsErrOf, Ok, Some, None};
 ghost use Rattle.bm_base.specs.Contents.{page_at};
 ghost use Rattle.bm_base.specs.Shape.{dims_of, load_stripes};
 ghost use Rattle.bm_bufs.specs.Bufs.{FitsShape};
-ghost use Rattle.bm_rack.specs.Frames.{RackCall};
+ghost use Rattle.bm_rack.specs.Frames.{RackCall, MakesCalls};
 ghost use Rattle.bm_rack.specs.Image.{SameInput, InEveryImage};
 ghost use Rattle.bm_control.specs.Progress.{IsGone};
 ghost use Rattle.bm_control.specs.Sound.{IsSound};
 ghost use Rattle.bm_job.specs.Follows.{Follows, IsNext, loads_moved, loads_counted};
-ghost use Rattle.bm_job.specs.Turns.{SameJob, IsNextOf, IsStopped, TurnAnswer, IsTurnRefusal, IsBadBody, IsTurnUnit, MakesCalls, form_pages, durable_pages, durable_syncs};
+ghost use Rattle.bm_job.specs.Turns.{SameJob, IsNextOf, IsStopped, TurnAnswer, IsTurnRefusal};
+ghost use Rattle.bm_job.specs.Turns.{HasRead, IsBadBody, IsTurnUnit, form_pages, durable_pages};
+ghost use Rattle.bm_job.specs.Turns.{durable_syncs};
 
 use crate::answers::{RunError, Turn};
-use crate::load_step::advanced;
 use crate::machine::Machine;
+use crate::next_load::advance;
 use bm_bufs::Bufs;
 use bm_rack::Rack;
 
@@ -49,6 +53,8 @@ impl Machine {
             → Follows self.old (R.view rack.old) → (page : ℕ) → ¬ IsErrOf result (RunError.BadPage page) }
         ensures bad { IsTrue R.tells_contents → (page : ℕ) → IsErrOf result (RunError.BadPage page)
             → IsBadBody self.old (R.view rack.old).contents page }
+        ensures read { IsTrue R.tells_contents → self.old.done < self.old.passes → self.old.form ≡ None
+            → OnOk result (HasRead self.old self.new (R.view rack.old).contents) }
         // No stop loses what is counted.
         ensures sure { IsTrue R.tells_stands → IsTrue R.tells_contents
             → Follows self.old (R.view rack.old)
@@ -65,10 +71,10 @@ impl Machine {
         if self.finished() {
             return Ok(Turn::Finished);
         }
-        match advanced(self, rack, bufs) {
+        match advance(self, rack, bufs) {
             Ok(next) => {
                 *self = next;
-                Ok(next.outlook())
+                Ok(next.remaining())
             }
             Err(error) => {
                 self.alive = false;
@@ -77,8 +83,8 @@ impl Machine {
         }
     }
 
-    /// What remains: a load or a gate, or nothing.
-    fn outlook(&self) -> Turn
+    // What remains: a load or a gate, or nothing.
+    fn remaining(&self) -> Turn
         ensures { TurnAnswer self.now (Ok result) }
     {
         if self.finished() {

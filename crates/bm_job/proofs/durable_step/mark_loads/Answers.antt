@@ -3,7 +3,7 @@ use Rattle.bm_base.specs.Contents.{page_unit}
 use Rattle.bm_base.specs.Shape.{dims_of}
 use Rattle.bm_forms.specs.PassForm.{IsOfShape}
 use Rattle.bm_control.specs.Bodies.{IsPassBody}
-use Rattle.bm_control.specs.Consistent.{pass_body}
+use Rattle.bm_control.specs.Pages.{pass_body}
 use Rattle.bm_control.specs.PageCalls.{IsSlotPage}
 use Rattle.bm_control.proofs.EqualLemmas.{some_injective}
 use Rattle.bm_job.specs.Follows.{IsNext}

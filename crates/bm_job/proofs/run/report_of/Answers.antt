@@ -1,7 +1,6 @@
 use Rattle.std.proofs.Common.{◌≡◌, ℕ, ◌+◌, ◌-◌, ◌*◌, ◌≤◌, refl, ap, ◌∙◌, arith}
 use Rattle.std.proofs.lemmas.Nat.{pow_pos}
-use Rattle.bm_base.specs.Shape.{load_stripes}
-use Rattle.bm_control.specs.Bodies.{loads_of}
+use Rattle.bm_base.specs.Shape.{load_stripes, loads_of}
 use Rattle.bm_job.specs.declared.machine.Machine.{Machine}
 use Rattle.bm_job.specs.Follows.{loads_moved}
 use Rattle.bm_job.specs.Runs.{load_rows, loads_left, IsEnd}

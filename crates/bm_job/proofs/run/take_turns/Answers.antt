@@ -1,6 +1,6 @@
 use Rattle.std.proofs.Common.{Result, Ok, Err, OnErr, refl, sym, ◌∙◌, rules}
 use Rattle.bm_control.proofs.EqualLemmas.{error_is, error_fails}
-use Rattle.bm_job.proofs.RunLemmas.{on_way_next, fewer_left, end_calls, failed_calls, reached_of, failed_call, bad_before}
+use Rattle.bm_job.proofs.RunLemmas.{on_way_next, fewer_left, end_calls, failed_calls, reached_of, failed_call, body_stands}
 use Rattle.bm_job.proofs.TurnLemmas.{left_of, refusal_of}
 use Rattle.bm_job.proofs.run.take_turns.Goals as goal
 
@@ -26,11 +26,11 @@ on_err_of : {T E P : Type 0} (r : Result T E) → P → OnErr r P
 on_err_of (Ok x) holds = tt
 on_err_of (Err e) holds = holds
 
-pub returns-in_err-turn-clause-bad : goal.returns-in_err-turn-clause-bad
-returns-in_err-turn-clause-bad g c told page is =
+pub returns-in_err-turn-clause-good : goal.returns-in_err-turn-clause-good
+returns-in_err-turn-clause-good g c told bodies page is =
     let m = c.loop-machine.machine in
     let left = left_of c.finished.result m.done m.passes c.loop-machine-test.true c.finished.ensures.1 m.keeps.done_few in
-    bad_before g.R.Rack.tells_stands g.R.Rack.tells_contents c.args.start.now m _ _ page c.loop-machine.invariant.way left
+    body_stands g.R.Rack.tells_stands g.R.Rack.tells_contents c.args.start.now m _ _ page c.loop-machine.invariant.way left bodies
     (c.turn.ensures.bad told page (c.in_err-turn.was ∙ refusal_of _ _ (sym (error_is c.from_residual.result _ c.from_residual.ensures.1) ∙ is)))
 
 pub returns-in_err-turn-clause-reached : goal.returns-in_err-turn-clause-reached

@@ -3,7 +3,8 @@ use Rattle.bm_control.proofs.SoundLemmas.{sound_same}
 use Rattle.bm_job.specs.Turns.{IsTurnUnit}
 use Rattle.bm_job.proofs.CallLemmas.{call_then, quiet, calls_failed, calls_all}
 use Rattle.bm_job.proofs.HeldLemmas.{follows_state}
-use Rattle.bm_job.proofs.load_step.advanced.Goals as goal
+use Rattle.bm_job.proofs.TurnLemmas.{read_of}
+use Rattle.bm_job.proofs.next_load.advance.Goals as goal
 
 pub returns-in_err-form-clause-sound : goal.returns-in_err-form-clause-sound
 returns-in_err-form-clause-sound g c told_stands told_contents follows = sound_same _ _ c.take_form.ensures.state follows.held.sound
@@ -41,8 +42,14 @@ returns-clause-call g c =
 
 pub returns-in_err-move_load-clause-counts : goal.returns-in_err-move_load-clause-counts
 returns-in_err-move_load-clause-counts g c =
-    calls_failed _ _ _ _ _ _ _ _ c.move_load.result (g.met.R.Rack.consistent c.args.rack.now) (λ ok. search rules) c.take_form.ensures.counts c.move_load.ensures.moves
+    calls_failed _ _ _ _ _ _ _ _ _ (g.met.R.Rack.consistent c.args.rack.now) (λ ok. search rules) c.take_form.ensures.counts
+    c.move_load.ensures.moves
 
 pub returns-clause-counts : goal.returns-clause-counts
 returns-clause-counts g c =
     calls_all _ _ _ _ _ _ _ _ _ _ (g.met.R.Rack.consistent c.args.rack.now) refl c.take_form.ensures.counts c.in_ok-move_load.ensures.moves c.make_durable.ensures.counts
+
+pub returns-clause-read : goal.returns-clause-read
+returns-clause-read g c told none =
+    read_of c.args.machine.now (g.R.Rack.view c.args.rack.now).contents c.in_ok-form.form c.make_durable.result (c.in_ok-form.ensures.read told none)
+    c.make_durable.ensures.form

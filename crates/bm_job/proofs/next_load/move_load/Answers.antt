@@ -11,10 +11,10 @@ use Rattle.bm_stripe.specs.Units.{IsAreaUnit}
 use Rattle.bm_pass.specs.LoadMove.{LoadMoved, IsTargetUnit}
 use Rattle.bm_pass.proofs.PassLemmas.{IsTargetUnit-area}
 use Rattle.bm_control.specs.Bodies.{IsPassBody}
-use Rattle.bm_control.specs.Consistent.{pass_body}
+use Rattle.bm_control.specs.Pages.{pass_body}
 use Rattle.bm_job.proofs.HeldLemmas.{held_working}
 use Rattle.bm_job.proofs.StepLemmas.{moved_more}
-use Rattle.bm_job.proofs.load_step.move_load.Goals as goal
+use Rattle.bm_job.proofs.next_load.move_load.Goals as goal
 
 pub returns-clause-held : goal.returns-clause-held
 returns-clause-held g c told_stands told_contents follows next =

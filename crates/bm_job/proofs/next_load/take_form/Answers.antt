@@ -1,6 +1,6 @@
 use Rattle.std.proofs.Common.{arith}
 use Rattle.bm_job.proofs.RangeLemmas.{few_passes}
-use Rattle.bm_job.proofs.load_step.take_form.Goals as goal
+use Rattle.bm_job.proofs.next_load.take_form.Goals as goal
 
 pub read_pass-requires-clause-number : goal.read_pass-requires-clause-number
 read_pass-requires-clause-number g c =

@@ -1,7 +1,7 @@
 use Rattle.std.proofs.Common.{sym, subst, refl}
 use Rattle.bm_job.specs.Begins.{IsLoadedState}
 use Rattle.bm_job.proofs.BeginLemmas.{not_same}
-use Rattle.bm_job.proofs.begin.resumed.Goals as goal
+use Rattle.bm_job.proofs.begin.machine_of.Goals as goal
 
 pub returns-then-not-same_shape : goal.returns-then-not-same_shape
 returns-then-not-same_shape c =

@@ -1,38 +1,29 @@
 //! A load of the pass under way.
-ghost use Rattle.std.specs.Prelude.{◌≡◌, ◌≢◌, ◌+◌, ◌*◌, ◌<◌, ◌≤◌, ℕ, IsTrue, IsOk, IsErr, OnOk, IfOk, IfErr, IsErrOf, Some};
+
+ghost use Rattle.std.specs.Prelude.{◌≡◌, ◌≢◌, ◌+◌, ◌*◌, ◌<◌, ◌≤◌, ℕ, IsTrue, IsOk, IsErr, OnOk};
+ghost use Rattle.std.specs.Prelude.{IfOk, IfErr, IsErrOf, Some, None};
 ghost use Rattle.bm_base.specs.Area.{area_after};
 ghost use Rattle.bm_base.specs.Shape.{dims_of, load_stripes};
 ghost use Rattle.bm_bufs.specs.Bufs.{FitsShape};
 ghost use Rattle.bm_forms.specs.PassForm.{IsOfShape};
-ghost use Rattle.bm_rack.specs.Frames.{SameState, Keeps, HasCause, RaisesCounts, MakesMoves, RackCall};
+ghost use Rattle.bm_rack.specs.Frames.{SameState, Keeps, HasCause, RaisesCounts, MovesRows};
+ghost use Rattle.bm_rack.specs.Frames.{RackCall};
 ghost use Rattle.bm_stripe.specs.Units.{IsAreaUnit};
 ghost use Rattle.bm_control.specs.Sound.{IsSound};
 ghost use Rattle.bm_job.specs.Follows.{Follows, IsHeld, IsNext, AreMoved};
-ghost use Rattle.bm_job.specs.Turns.{IsNextOf, IsTurnRefusal, IsBadBody, IsTurnUnit, MakesCalls, form_pages, durable_pages, durable_syncs};
+ghost use Rattle.bm_rack.specs.Frames.{MakesCalls};
+ghost use Rattle.bm_job.specs.Turns.{IsNextOf, IsTurnRefusal, HasRead, IsBadBody, IsTurnUnit};
+ghost use Rattle.bm_job.specs.Turns.{form_pages, durable_pages, durable_syncs};
 
 use crate::answers::RunError;
 use crate::durable_step::make_durable;
 use crate::machine::Machine;
-use bm_base::{Area, Failed};
+use bm_base::{Failed, area_of};
 use bm_bufs::Bufs;
 use bm_control::read_pass;
 use bm_forms::PassForm;
 use bm_pass::load_step;
 use bm_rack::Rack;
-
-// The area that holds the records after so many passes.
-fn area_of(passes: u16) -> Area
-    ensures { result ≡ area_after passes }
-{
-    if passes == 0 {
-        return Area::Input;
-    }
-    if passes % 2 == 1 {
-        Area::One
-    } else {
-        Area::Two
-    }
-}
 
 // The form of the pass under way, read from its body where the machine has not read it yet.
 fn take_form<R: Rack>(machine: &Machine, rack: &mut R) -> Result<PassForm, RunError>
@@ -41,6 +32,8 @@ fn take_form<R: Rack>(machine: &Machine, rack: &mut R) -> Result<PassForm, RunEr
     ensures of_shape { IfOk result (λ form. IsOfShape machine.now.shape form) }
     ensures next { IsTrue R.tells_contents → Follows machine.now (R.view rack.old)
         → IfOk result (λ form. IsNext machine.now.shape machine.now.done (R.view rack.new).contents form) }
+    ensures read { IsTrue R.tells_contents → machine.now.form ≡ None
+        → IfOk result (λ form. IsNext machine.now.shape machine.now.done (R.view rack.old).contents form) }
     ensures bad { IsTrue R.tells_contents → (page : ℕ) → IsErrOf result (RunError.BadPage page)
         → IsBadBody machine.now (R.view rack.old).contents page }
     ensures refusal { IfErr result (λ e. IsTurnRefusal e) }
@@ -77,7 +70,8 @@ fn move_load<R: Rack>(
         → IsNext machine.now.shape machine.now.done (R.view rack.new).contents form.now }
     ensures call { RackCall (IsAreaUnit machine.now.shape (area_after (machine.now.done + 1))) (IsErr result)
         (R.view rack.old) (R.view rack.new) }
-    ensures moves { MakesMoves (2 * load_stripes machine.now.shape) (R.view rack.old) (R.view rack.new) result }
+    ensures moves { MovesRows (2 * load_stripes machine.now.shape) (IsOk result)
+        (R.view rack.old) (R.view rack.new) }
     ensures fits { FitsShape machine.now.shape bufs.new }
 {
     let from = area_of(machine.done);
@@ -86,7 +80,7 @@ fn move_load<R: Rack>(
 }
 
 /// The machine after one load more. A pass is left.
-pub fn advanced<R: Rack>(
+pub fn advance<R: Rack>(
     machine: &Machine,
     rack: &mut R,
     bufs: &mut Bufs,
@@ -96,6 +90,8 @@ pub fn advanced<R: Rack>(
     requires left { machine.now.done < machine.now.passes }
     requires fits { FitsShape machine.now.shape bufs.old }
     ensures next { IfOk result (λ next. IsNextOf machine.now next) }
+    ensures read { IsTrue R.tells_contents → machine.now.form ≡ None
+        → IfOk result (λ next. HasRead machine.now next (R.view rack.old).contents) }
     ensures follows { IsTrue R.tells_stands → IsTrue R.tells_contents
         → Follows machine.now (R.view rack.old) → IfOk result (λ next. Follows next (R.view rack.new)) }
     ensures sound { IsTrue R.tells_stands → IsTrue R.tells_contents

@@ -1,7 +1,7 @@
 use Rattle.std.proofs.Common.{subst}
 use Rattle.bm_control.proofs.EqualLemmas.{some_injective}
 use Rattle.bm_job.specs.Follows.{IsNext}
-use Rattle.bm_job.proofs.durable_step.went_on.Goals as goal
+use Rattle.bm_job.proofs.durable_step.after_load.Goals as goal
 
 pub returns-clause-follows : goal.returns-clause-follows
 returns-clause-follows c v holds next = record {

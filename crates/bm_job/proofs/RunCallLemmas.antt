@@ -1,0 +1,120 @@
+-- How many page calls and syncs a run makes.
+use Rattle.std.proofs.Common.{Ok, ◌≡◌, inl, inr, ℕ, ◌+◌, ◌-◌, ◌*◌, ◌≤◌, ◌∙◌, ap, subst, arith}
+use Rattle.std.proofs.lemmas.Bool.{cases_lt}
+use Rattle.std.proofs.lemmas.Grind.{div_ceil_times}
+use Rattle.std.specs.Int.{div_ceil}
+use Rattle.std.proofs.Math.Nat.{mul-le-mul, mul-le-mul_left, mul-le-mul_right}
+use Rattle.bm_base.specs.declared.shape.Shape.{Shape}
+use Rattle.bm_base.specs.Contents.{Contents, page_at}
+use Rattle.bm_base.specs.Shape.{loads_of}
+use Rattle.bm_forms.specs.declared.job.Job.{Job}
+use Rattle.bm_forms.specs.PassLimit.{limit_of}
+use Rattle.bm_rack.specs.RackView.{RackView}
+use Rattle.bm_rack.specs.Frames.{MakesCalls}
+use Rattle.bm_control.specs.Pages.{load_body, job_body, HasJobBody}
+use Rattle.bm_control.specs.PageCalls.{MakesPageCalls}
+use Rattle.bm_control.proofs.MomentLemmas.{load_unique}
+use Rattle.bm_job.specs.declared.machine.Machine.{Machine}
+use Rattle.bm_job.specs.Begins.{BeginAnswer, BeginCalls, IsFresh}
+use Rattle.bm_job.specs.Runs.{turn_pages, turn_syncs, run_pages, run_syncs, marks_of, most_pages, most_syncs, CallsFew, RunCalls}
+use Rattle.bm_control.proofs.UniqueLemmas.{passes_unique, every_unique}
+
+-- the calls of a begin and of turns
+pub both_calls : (t : Shape) (passes every rows : ℕ) (succeeds : Type 0) (a b c : RackView) → MakesPageCalls ⊥ (8 + 2 * passes) 3 a b
+    → MakesCalls succeeds rows (turn_pages t passes every) (turn_syncs t passes every) b c → CallsFew (run_pages t passes every) (run_syncs t passes every) a c
+both_calls t passes every rows succeeds a b c x y = record {
+  pages_low = omega (arith, x.pages_low, y.pages_low);
+  pages_high = omega (arith, x.pages_high, y.pages_high);
+  syncs_low = omega (arith, x.syncs_low, y.syncs_low);
+  syncs_high = omega (arith, x.syncs_high, y.syncs_high);
+}
+
+-- the calls of a begin alone
+calls_few : (t : Shape) (passes every pages syncs : ℕ) (a b : RackView) → pages ≤ 8 + 2 * passes → syncs ≤ 3 → MakesPageCalls ⊥ pages syncs a b
+    → CallsFew (run_pages t passes every) (run_syncs t passes every) a b
+calls_few t passes every pages syncs a b few less x = record {
+  pages_low = x.pages_low;
+  pages_high = omega (arith, x.pages_high, few);
+  syncs_low = x.syncs_low;
+  syncs_high = omega (arith, x.syncs_high, less);
+}
+
+-- where no turn was taken
+pub begin_calls : (s : Shape) (v : Contents) (passes every : ℕ) (a b : RackView) → BeginCalls v passes a b → RunCalls s v passes every a b
+begin_calls s v passes every a b x = record {
+  none = λ closed. calls_few s passes every (7 + 2 * passes) 3 a b (omega arith) (omega arith) (x.none closed);
+  bare = λ none. calls_few s passes every (7 + 2 * passes) 3 a b (omega arith) (omega arith) (x.bare none);
+  opened = λ gate t job p q load body. calls_few t p q (8 + 2 * p) 1 a b (omega arith) (omega arith) (x.opened gate t job p q load body);
+}
+
+-- calls by other names of the numbers
+calls_same : (t u : Shape) (p q passes every : ℕ) (a b : RackView) → t ≡ u → p ≡ passes → q ≡ every → CallsFew (run_pages t p q) (run_syncs t p q) a b
+    → CallsFew (run_pages u passes every) (run_syncs u passes every) a b
+calls_same t u p q passes every a b shape count loads x =
+    subst (λ (y : ℕ). CallsFew (run_pages u passes y) (run_syncs u passes y) a b) loads
+    (subst (λ (y : ℕ). CallsFew (run_pages u y q) (run_syncs u y q) a b) count
+    (subst (λ (y : Shape). CallsFew (run_pages y p q) (run_syncs y p q) a b) shape x))
+
+-- and where turns were taken
+pub run_calls : (s : Shape) (job : Job) (m : Machine) (v : Contents) (passes every : ℕ) (a b : RackView) → BeginAnswer s job passes every v (Ok m)
+    → CallsFew (run_pages m.shape m.passes m.every) (run_syncs m.shape m.passes m.every) a b → RunCalls s v passes every a b
+run_calls s job m v passes every a b (fresh, inl (loaded, start)) x = record {
+  none = λ closed. calls_same m.shape s m.passes m.every passes every a b fresh.shape start.passes_are start.every_is x;
+  bare = λ none. calls_same m.shape s m.passes m.every passes every a b fresh.shape start.passes_are start.every_is x;
+  opened = λ gate. absurd (loaded.2 gate);
+}
+run_calls s job m v passes every a b (fresh, inr told) x = record {
+  none = λ closed. absurd (closed told.0.job_gate);
+  bare = λ none. absurd (none m.shape m.job m.passes m.every told.0.load_body told.1.body);
+  opened = λ gate t other p q load body.
+      let shape : m.shape ≡ t = load_unique m.shape t (page_at v load_body) told.0.load_body load in
+      let mine : HasJobBody t v m.job m.passes m.every = subst (λ (u : Shape). HasJobBody u v m.job m.passes m.every) shape told.1.body in
+      calls_same m.shape t m.passes m.every p q a b shape
+      (passes_unique t (page_at v job_body) m.job other m.passes p m.every q mine body)
+      (every_unique t (page_at v job_body) m.job other m.passes p m.every q mine body) x;
+}
+
+-- progress is made durable within a pass less often than there are loads
+marks_few : (s : Shape) (every : ℕ) → 1 ≤ every → marks_of s every ≤ loads_of s - 1
+marks_few s every some =
+    let up = (div_ceil_times (loads_of s) every some).1 in
+    elim (cases_lt (loads_of s) (div_ceil (loads_of s) every)) [
+      | inl more ↦
+          let a : (loads_of s + 1) * every ≤ div_ceil (loads_of s) every * every = mul-le-mul_right every (omega (arith, more)) in
+          let b : (loads_of s + 1) * every ≡ loads_of s * every + every = omega arith in
+          let c : loads_of s * 1 ≤ loads_of s * every = mul-le-mul_left (loads_of s) some in
+          absurd (omega (arith, up, a, b, c))
+      | inr few ↦ omega (arith, few)
+    ]
+
+-- the calls of the turns, by the greatest number of passes
+turns_few : (s : Shape) (passes most every k : ℕ) → passes ≤ most → 1 ≤ every → passes * (2 + k * marks_of s every) ≤ most * (2 + k * (loads_of s - 1))
+turns_few s passes most every k few some =
+    let a : k * marks_of s every ≤ k * (loads_of s - 1) = mul-le-mul_left k (marks_few s every some) in
+    mul-le-mul few (omega (arith, a))
+
+-- on every rack: of a begin alone
+pub most_begun : (s : Shape) (job : Job) (a b : RackView) → MakesPageCalls ⊥ 516 3 a b → CallsFew (most_pages s job) (most_syncs s job) a b
+most_begun s job a b x =
+    let high = x.pages_high in
+    let syncs = x.syncs_high in
+    record { pages_low = x.pages_low; pages_high = omega (arith, high); syncs_low = x.syncs_low; syncs_high = omega (arith, syncs) }
+
+-- and of turns after it
+pub most_run : (s : Shape) (job : Job) (m : Machine) (rows : ℕ) (succeeds : Type 0) (a b c : RackView) → IsFresh s job m → MakesPageCalls ⊥ 516 3 a b
+    → MakesCalls succeeds rows (turn_pages m.shape m.passes m.every) (turn_syncs m.shape m.passes m.every) b c
+    → CallsFew (most_pages s job) (most_syncs s job) a c
+most_run s job m rows succeeds a b c fresh x y =
+    let limit : limit_of m.shape m.job ≡ limit_of s job = ap (λ (t : Shape). limit_of t m.job) fresh.shape ∙ ap (λ (k : Job). limit_of s k) fresh.job_is in
+    let few = m.keeps.passes_few in
+    let loads : loads_of m.shape ≡ loads_of s = ap loads_of fresh.shape in
+    let p = turns_few m.shape m.passes (limit_of s job) m.every 4 (omega (arith, few, limit)) m.keeps.every_some in
+    let q = turns_few m.shape m.passes (limit_of s job) m.every 3 (omega (arith, few, limit)) m.keeps.every_some in
+    let p' : limit_of s job * (2 + 4 * (loads_of m.shape - 1)) ≡ limit_of s job * (2 + 4 * (loads_of s - 1)) = ap (λ (k : ℕ). limit_of s job * (2 + 4 * (k - 1))) loads in
+    let q' : limit_of s job * (2 + 3 * (loads_of m.shape - 1)) ≡ limit_of s job * (2 + 3 * (loads_of s - 1)) = ap (λ (k : ℕ). limit_of s job * (2 + 3 * (k - 1))) loads in
+    record {
+      pages_low = omega (arith, x.pages_low, y.pages_low);
+      pages_high = omega (arith, x.pages_high, y.pages_high, p, p');
+      syncs_low = omega (arith, x.syncs_low, y.syncs_low);
+      syncs_high = omega (arith, x.syncs_high, y.syncs_high, q, q');
+    }
