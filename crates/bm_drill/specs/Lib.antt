@@ -1,0 +1,5 @@
+pub mod Generated
+pub mod Sessions
+pub mod Session
+pub mod Steps
+pub mod Drill
