@@ -1,0 +1,5 @@
+pub mod Input
+pub mod Loading
+pub mod Dumping
+pub mod Dropping
+pub mod JobOpening
