@@ -5,6 +5,8 @@ use Rattle.bm_rack.specs.RackView.{RackView, IsClean}
 use Rattle.bm_rack.specs.Calls.{IsBlank}
 use Rattle.bm_top.specs.declared.disks.DisksError.{DisksError}
 use Rattle.bm_top.specs.declared.disks.DisksError.TheVariants.{RackFault, OutOfMemory, Exists, NoDisks, WrongDims}
+use Rattle.bm_top.specs.declared.status.Status.{Status}
+use Rattle.bm_top.specs.declared.status.Status.TheVariants as status
 
 -- what stands, its bytes and what is dirty are as before
 pub record SameDisks (old new : RackView) : Type 0 where
@@ -39,11 +41,19 @@ AttachRefusal told dims old WrongDims = IsTrue told → (¬ (old.stands ≡ None
 abbrev pub SameOrNewDisks : Bool → Bool → Dims → RackView → RackView → Type 0
 SameOrNewDisks told_stands told_contents dims old new = SameDisks old new ⊎ NewDisks told_stands told_contents dims old new
 
--- Why no disks were made and attached. Those just made are there and of the right sizes,
--- so NoDisks and WrongDims come of a rack alone that doesn't tell what stands.
+-- Why no disks were made and attached. Those just made are there and of the right sizes, so NoDisks and WrongDims come of a rack alone that
+-- doesn't tell what stands.
 abbrev pub DisksRefusal : Bool → Bool → Dims → RackView → RackView → DisksError → Type 0
 DisksRefusal told_stands told_contents dims old new RackFault = SameOrNewDisks told_stands told_contents dims old new
 DisksRefusal told_stands told_contents dims old new OutOfMemory = SameOrNewDisks told_stands told_contents dims old new
 DisksRefusal told_stands told_contents dims old new Exists = (IsTrue told_stands → ¬ (old.stands ≡ None)) × SameDisks old new
 DisksRefusal told_stands told_contents dims old new NoDisks = (¬ IsTrue told_stands) × NewDisks told_stands told_contents dims old new
 DisksRefusal told_stands told_contents dims old new WrongDims = (¬ IsTrue told_stands) × NewDisks told_stands told_contents dims old new
+
+-- the answer of a command whose disks aren't ready
+abbrev pub disks_status : DisksError → Status
+disks_status RackFault = status.RackFault
+disks_status OutOfMemory = status.OutOfMemory
+disks_status Exists = status.Exists
+disks_status NoDisks = status.NoDisks
+disks_status WrongDims = status.WrongDims

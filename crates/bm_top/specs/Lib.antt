@@ -1,8 +1,12 @@
+pub mod Moment
+pub mod Task
 pub mod Words
 pub mod Status
 pub mod StatusWords
 pub mod Disks
-pub mod RecordIo
-pub mod Flip
-pub mod FlipAnswers
-pub mod PlanAnswers
+pub mod DiskStatus
+pub mod JobRead
+pub mod Causes
+pub mod Exits
+pub mod commands
+pub mod TopCall

@@ -1,11 +1,15 @@
 -- The line that tells how a command ended.
-use Rattle.std.specs.Prelude.{codes, ℕ, List, [], ◌∷◌, ◌++◌, decimal}
+use Rattle.std.specs.Prelude.{codes, ℕ, List, ◌++◌, decimal}
 use Rattle.bm_base.specs.declared.field_name.FieldName.{FieldName}
 use Rattle.bm_base.specs.declared.field_name.FieldName.TheVariants as field
 use Rattle.bm_named.specs.declared.map_fault.MapFault.{MapFault}
 use Rattle.bm_named.specs.declared.map_fault.MapFault.TheVariants as fault
+use Rattle.bm_text.specs.Line.{line}
 use Rattle.bm_top.specs.declared.status.Status.{Status}
-use Rattle.bm_top.specs.declared.status.Status.TheVariants.{Done, OutOfMemory, Usage, JobFault, JobText, JobField, JobShape, JobMap, DataFault, DataShort, DataLong, RackFault, NoDisks, WrongDims, Exists, SinkFault}
+use Rattle.bm_top.specs.declared.status.Status.TheVariants.{Done, OutOfMemory, Usage, JobFault, JobText, JobField, JobShape, JobMap}
+use Rattle.bm_top.specs.declared.status.Status.TheVariants.{DataFault, DataShort, DataLong, RackFault, NoDisks, WrongDims, Exists}
+use Rattle.bm_top.specs.declared.status.Status.TheVariants.{NotLoaded, OtherShape, OtherJob, NotDone, NoJob, BadPage, SinkFault, OutOfRange}
+use Rattle.bm_top.specs.declared.status.Status.TheVariants.{NotAffine, NotPermutation, BatchShape}
 
 -- the name of a field of a job text, as it is printed
 abbrev pub name_of : FieldName → List ℕ
@@ -58,8 +62,18 @@ words_of RackFault = codes "rack fault"
 words_of NoDisks = codes "no disks"
 words_of WrongDims = codes "wrong dims"
 words_of Exists = codes "disks exist"
+words_of NotLoaded = codes "not loaded"
+words_of OtherShape = codes "other shape"
+words_of OtherJob = codes "other job"
+words_of (NotDone done all) = codes "not done " ++ decimal done ++ codes " of " ++ decimal all
+words_of NoJob = codes "no job"
+words_of (BadPage page) = codes "bad page " ++ decimal page
 words_of SinkFault = codes "output fault"
+words_of (OutOfRange x y) = codes "out of range " ++ decimal x ++ codes " " ++ decimal y
+words_of (NotAffine x y want) = codes "not affine " ++ decimal x ++ codes " " ++ decimal y ++ codes " " ++ decimal want
+words_of (NotPermutation x) = codes "not a permutation " ++ decimal x
+words_of (BatchShape bay) = codes "batch shape " ++ decimal bay
 
 -- the line of an answer
 abbrev pub line_of : Status → List ℕ
-line_of status = codes "bmmc: " ++ words_of status ++ 10 ∷ []
+line_of status = line (words_of status)

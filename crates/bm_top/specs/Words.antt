@@ -5,6 +5,8 @@ use Rattle.bm_base.specs.declared.shape.Shape.{Shape}
 use Rattle.bm_top.specs.declared.words.Flip.{Flip}
 use Rattle.bm_top.specs.declared.words.Command.{Command}
 use Rattle.bm_top.specs.declared.words.Command.TheVariants as command
+use Rattle.bm_top.specs.declared.words.Verb.{Verb}
+use Rattle.bm_top.specs.declared.words.Verb.TheVariants as verbs
 
 -- the words as texts
 abbrev pub texts_of : List (String Global) → List (List ℕ)
@@ -33,21 +35,34 @@ pub record IsFlip (words : List (String Global)) (f : Flip) : Type 0 where
 abbrev pub flip_by : Shape → ℕ → Flip
 flip_by s c = record { n = s.n; b = s.b; d = s.d; m = s.m; width = s.width; c = c }
 
--- the words are `plan` and a word that names the job
-pub record IsPlan (words : List (String Global)) : Type 0 where
-  pub job : List ℕ
-  pub words_are : texts_of words ≡ codes "plan" ∷ job ∷ []
+-- the word of a command that has a job
+abbrev pub verb_word : Verb → List ℕ
+verb_word verbs.New = codes "new"
+verb_word verbs.Load = codes "load"
+verb_word verbs.Plan = codes "plan"
+verb_word verbs.Run = codes "run"
+verb_word verbs.Status = codes "status"
+verb_word verbs.Dump = codes "dump"
+verb_word verbs.Drop = codes "drop"
+verb_word verbs.Carry = codes "carry"
+
+-- the words are that of the command and this one, which names the job
+abbrev pub NamesJob : List (String Global) → Verb → List ℕ → Type 0
+NamesJob words verb job = texts_of words ≡ verb_word verb ∷ job ∷ []
+
+-- the words are that of the command and any one more
+abbrev pub IsJobWords : List (String Global) → Verb → Type 0
+IsJobWords words verb = (job : List ℕ) × NamesJob words verb job
 
 -- the words are those of this command
 abbrev pub IsCommand : List (String Global) → Command → Type 0
 IsCommand words (command.Flip f) = IsFlip words f
-IsCommand words command.Plan = IsPlan words
+IsCommand words (command.On verb) = IsJobWords words verb
 
 -- the words are those of no flip
 abbrev pub IsNoFlip : List (String Global) → Type 0
 IsNoFlip words = (f : Flip) → ¬ IsFlip words f
 
 -- the words are those of no command
-pub record IsNoCommand (words : List (String Global)) : Type 0 where
-  pub no_flip : IsNoFlip words
-  pub no_plan : ¬ IsPlan words
+abbrev pub IsNoCommand : List (String Global) → Type 0
+IsNoCommand words = (c : Command) → ¬ IsCommand words c

@@ -1,8 +1,11 @@
 //! Making and attaching the disks of a shape.
-ghost use Rattle.std.specs.Prelude.{◌≡◌, Some, IsOk, IsErr, IsTrue, IfErr};
-ghost use Rattle.bm_rack.specs.Frames.{RaisesCounts, Keeps, HasCause};
-ghost use Rattle.bm_top.specs.Disks.{SameDisks, NewDisks, AttachRefusal, CreateRefusal, DisksRefusal};
 
+ghost use Rattle.std.specs.Prelude.{◌≡◌, Some, None, IsOk, IsErr, IsTrue, IfErr};
+ghost use Rattle.bm_rack.specs.Frames.{RaisesCounts, Keeps, HasCause};
+ghost use Rattle.bm_top.specs.Disks.{SameDisks, NewDisks, AttachRefusal, CreateRefusal};
+ghost use Rattle.bm_top.specs.Disks.{DisksRefusal, disks_status};
+
+use crate::Status;
 use bm_base::Dims;
 use bm_rack::{AttachError, CreateError, Found, Rack};
 
@@ -21,12 +24,26 @@ pub enum DisksError {
     WrongDims,
 }
 
+/// The answer of a command whose disks aren't ready.
+pub fn disks_status(error: DisksError) -> Status
+    ensures { result ≡ disks_status error }
+{
+    match error {
+        DisksError::RackFault => Status::RackFault,
+        DisksError::OutOfMemory => Status::OutOfMemory,
+        DisksError::Exists => Status::Exists,
+        DisksError::NoDisks => Status::NoDisks,
+        DisksError::WrongDims => Status::WrongDims,
+    }
+}
+
 /// Makes disks of zeros where nothing stands. They are not attached yet.
 pub fn create_disks<R: Rack>(rack: &mut R, dims: &Dims) -> Result<(), DisksError>
     ensures made { IsOk result
         → NewDisks R.tells_stands R.tells_contents dims.now (R.view rack.old) (R.view rack.new) }
     ensures refusal { IfErr result (λ e. CreateRefusal R.tells_stands (R.view rack.old) e) }
     ensures same { IsErr result → SameDisks (R.view rack.old) (R.view rack.new) }
+    ensures unattached { (R.view rack.new).attached ≡ None }
     ensures counts { RaisesCounts 0 0 0 (R.view rack.old) (R.view rack.new) }
     ensures keeps { Keeps (R.view rack.old) (R.view rack.new) }
     ensures cause { HasCause (result ≡ Err DisksError.RackFault) (R.view rack.old) (R.view rack.new) }
@@ -42,6 +59,7 @@ pub fn create_disks<R: Rack>(rack: &mut R, dims: &Dims) -> Result<(), DisksError
 /// Attaches the disks of these sizes that stand.
 pub fn attach_disks<R: Rack>(rack: &mut R, dims: &Dims) -> Result<(), DisksError>
     ensures attached { IsOk result → (R.view rack.new).attached ≡ Some dims.now }
+    ensures unattached { IsErr result → (R.view rack.new).attached ≡ None }
     ensures stood { IsTrue R.tells_stands → IsOk result → (R.view rack.old).stands ≡ Some dims.now }
     ensures refusal { IfErr result (λ e. AttachRefusal R.tells_stands dims.now (R.view rack.old) e) }
     ensures same { SameDisks (R.view rack.old) (R.view rack.new) }
@@ -63,6 +81,7 @@ pub fn new_disks<R: Rack>(rack: &mut R, dims: &Dims) -> Result<(), DisksError>
     ensures made { IsOk result
         → NewDisks R.tells_stands R.tells_contents dims.now (R.view rack.old) (R.view rack.new) }
     ensures attached { IsOk result → (R.view rack.new).attached ≡ Some dims.now }
+    ensures unattached { IsErr result → (R.view rack.new).attached ≡ None }
     ensures refusal { IfErr result (λ e.
         DisksRefusal R.tells_stands R.tells_contents dims.now (R.view rack.old) (R.view rack.new) e) }
     ensures counts { RaisesCounts 0 0 0 (R.view rack.old) (R.view rack.new) }

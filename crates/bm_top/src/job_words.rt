@@ -1,4 +1,5 @@
 //! The words of what is at fault in a job text.
+
 ghost use Rattle.std.specs.Prelude.{◌≡◌, ◌≤◌, ◌++◌, length, decimal};
 ghost use Rattle.arrayvec.specs.ArrayString.{array_string_len};
 ghost use Rattle.bm_top.specs.StatusWords.{name_of, fault_words};
@@ -63,7 +64,7 @@ pub fn fault_words(fault: &MapFault) -> ArrayString<64>
     }
 }
 
-/// A label and a number in decimal.
+// A label and a number in decimal.
 fn labelled(label: &str, number: u64) -> ArrayString<64>
     requires { length label.now ≤ 12 }
     ensures words { result.bytes ≡ label.now ++ decimal number }

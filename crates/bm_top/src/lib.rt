@@ -1,18 +1,20 @@
 //! The commands, and the one call that carries them out.
+
 #![tactic(auto)]
 
 mod commands;
+mod disk_status;
 mod disks;
-mod flip_loads;
-mod flip_records;
+mod job_reading;
 mod job_words;
-mod record_io;
-mod source_bytes;
+mod planning;
 mod status;
 mod status_words;
+mod task;
 mod top_call;
 mod words;
 
 pub use status::Status;
+pub use task::Task;
 pub use top_call::bmmc_top;
-pub use words::Flip;
+pub use words::{Flip, Verb, job_word};

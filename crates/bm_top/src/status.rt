@@ -1,4 +1,5 @@
 //! How a command ends.
+
 ghost use Rattle.std.specs.Prelude.{◌≡◌};
 ghost use Rattle.bm_top.specs.Status.{code_of};
 
@@ -50,8 +51,54 @@ pub enum Status {
     WrongDims,
     /// Something stands where the disks were to be made.
     Exists,
+    /// No records are loaded.
+    NotLoaded,
+    /// Records of another shape are loaded.
+    OtherShape,
+    /// Another job is open.
+    OtherJob,
+    /// The open job has passes that are not done.
+    NotDone {
+        /// The passes that are done.
+        done: u16,
+        /// All passes.
+        all: u16,
+    },
+    /// No job is open.
+    NoJob,
+    /// This page of the control file is the first that is wrong.
+    BadPage {
+        /// The page.
+        page: u16,
+    },
     /// The output failed.
     SinkFault,
+    /// A number of the input is no address. No lower record has such a number.
+    OutOfRange {
+        /// The record.
+        x: u64,
+        /// Its number.
+        y: u64,
+    },
+    /// The input is no affine list. The lowest record shows it that differs from the candidate.
+    NotAffine {
+        /// The record.
+        x: u64,
+        /// Its number.
+        y: u64,
+        /// The candidate's number for it.
+        want: u64,
+    },
+    /// The input is the list of a singular map.
+    NotPermutation {
+        /// The least address but 0 that the matrix sends to 0.
+        x: u64,
+    },
+    /// The shape of this job of a batch is the first that differs from that of the first job.
+    BatchShape {
+        /// The number of the job, from 0.
+        bay: u16,
+    },
 }
 
 impl Status {
@@ -75,7 +122,17 @@ impl Status {
             Status::NoDisks => 12,
             Status::WrongDims => 13,
             Status::Exists => 14,
+            Status::NotLoaded => 15,
+            Status::OtherShape => 16,
+            Status::OtherJob => 17,
+            Status::NotDone { .. } => 18,
+            Status::NoJob => 19,
+            Status::BadPage { .. } => 20,
             Status::SinkFault => 21,
+            Status::OutOfRange { .. } => 22,
+            Status::NotAffine { .. } => 23,
+            Status::NotPermutation { .. } => 24,
+            Status::BatchShape { .. } => 25,
         }
     }
 }

@@ -1,60 +1,96 @@
-//! The line that tells how a command ended.
-ghost use Rattle.std.specs.Prelude.{◌≡◌, ◌≤◌};
+//! The words that tell how a command ended.
+
+ghost use Rattle.std.specs.Prelude.{◌≡◌, ◌+◌, ◌≤◌, ◌++◌, codes, length, decimal};
 ghost use Rattle.arrayvec.specs.ArrayString.{array_string_len};
-ghost use Rattle.bm_top.specs.StatusWords.{words_of, line_of};
+ghost use Rattle.bm_top.specs.StatusWords.{words_of};
 
 use crate::Status;
 use crate::job_words::{fault_words, field_name};
 use arrayvec::ArrayString;
 use itoa::Buffer;
 
-/// The words of a status.
-fn status_words(status: &Status) -> ArrayString<128>
+/// The words of a status. They take no memory.
+pub fn status_words(status: &Status) -> ArrayString<128>
     ensures words { result.bytes ≡ words_of status.now }
-    ensures short { array_string_len result ≤ 64 }
+    ensures short { array_string_len result ≤ 96 }
 {
     let mut words = ArrayString::new();
-    let mut buffer = Buffer::new();
     match status {
         Status::Done => words.push_str("done"),
         Status::OutOfMemory => words.push_str("out of memory"),
         Status::Usage => words.push_str("usage"),
         Status::JobFault => words.push_str("job fault"),
         Status::JobText => words.push_str("job text"),
-        Status::JobField { which } => {
-            words.push_str("job field ");
-            words.push_str(field_name(*which));
-        }
-        Status::JobShape { rule } => {
-            words.push_str("job shape rule ");
-            words.push_str(buffer.format(*rule));
-        }
-        Status::JobMap { fault } => {
-            words.push_str("job map ");
-            words.push_str(fault_words(fault).as_str());
-        }
+        Status::JobField { which } => push_text(&mut words, "job field ", field_name(*which)),
+        Status::JobShape { rule } => push_number(&mut words, "job shape rule ", u64::from(*rule)),
+        Status::JobMap { fault } => push_text(&mut words, "job map ", fault_words(fault).as_str()),
         Status::DataFault => words.push_str("input fault"),
-        Status::DataShort { got } => {
-            words.push_str("input short ");
-            words.push_str(buffer.format(*got));
-        }
+        Status::DataShort { got } => push_number(&mut words, "input short ", *got),
         Status::DataLong => words.push_str("input long"),
         Status::RackFault => words.push_str("rack fault"),
         Status::NoDisks => words.push_str("no disks"),
         Status::WrongDims => words.push_str("wrong dims"),
         Status::Exists => words.push_str("disks exist"),
+        Status::NotLoaded => words.push_str("not loaded"),
+        Status::OtherShape => words.push_str("other shape"),
+        Status::OtherJob => words.push_str("other job"),
+        Status::NotDone { done, all } => push_not_done(&mut words, *done, *all),
+        Status::NoJob => words.push_str("no job"),
+        Status::BadPage { page } => push_number(&mut words, "bad page ", u64::from(*page)),
         Status::SinkFault => words.push_str("output fault"),
+        Status::OutOfRange { x, y } => push_pair(&mut words, "out of range ", *x, *y),
+        Status::NotAffine { x, y, want } => {
+            push_pair(&mut words, "not affine ", *x, *y);
+            push_number(&mut words, " ", *want);
+        }
+        Status::NotPermutation { x } => push_number(&mut words, "not a permutation ", *x),
+        Status::BatchShape { bay } => push_number(&mut words, "batch shape ", u64::from(*bay)),
     }
     words
 }
 
-/// The line of a status: the program's name, the words and a line feed. It takes no memory.
-pub fn status_line(status: &Status) -> ArrayString<128>
-    ensures { result.bytes ≡ line_of status.now }
+// Puts a label and a text at the end of the words.
+fn push_text(words: &mut ArrayString<128>, label: &str, text: &str)
+    requires label { length label.now ≤ 20 }
+    requires text { length text.now ≤ 40 }
+    requires room { array_string_len words.old ≤ 64 }
+    ensures words { words.new.bytes ≡ words.old.bytes ++ label.now ++ text.now }
+    ensures short { array_string_len words.new ≤ array_string_len words.old + 60 }
 {
-    let mut line = ArrayString::new();
-    line.push_str("bmmc: ");
-    line.push_str(status_words(status).as_str());
-    line.push('\n');
-    line
+    words.push_str(label);
+    words.push_str(text);
+}
+
+// Puts how many passes are done, and of how many, at the end of the words.
+fn push_not_done(words: &mut ArrayString<128>, done: u16, all: u16)
+    requires room { array_string_len words.old ≤ 20 }
+    ensures words { words.new.bytes
+        ≡ words.old.bytes ++ codes "not done " ++ decimal done ++ codes " of " ++ decimal all }
+    ensures short { array_string_len words.new ≤ array_string_len words.old + 64 }
+{
+    push_number(words, "not done ", u64::from(done));
+    push_number(words, " of ", u64::from(all));
+}
+
+// Puts a label and two numbers in decimal, with a space between them, at the end of the words.
+fn push_pair(words: &mut ArrayString<128>, label: &str, one: u64, other: u64)
+    requires label { length label.now ≤ 20 }
+    requires room { array_string_len words.old ≤ 20 }
+    ensures words { words.new.bytes
+        ≡ words.old.bytes ++ label.now ++ decimal one ++ codes " " ++ decimal other }
+    ensures short { array_string_len words.new ≤ array_string_len words.old + 64 }
+{
+    push_number(words, label, one);
+    push_number(words, " ", other);
+}
+
+// Puts a label and a number in decimal at the end of the words.
+fn push_number(words: &mut ArrayString<128>, label: &str, number: u64)
+    requires label { length label.now ≤ 20 }
+    requires room { array_string_len words.old ≤ 64 }
+    ensures words { words.new.bytes ≡ words.old.bytes ++ label.now ++ decimal number }
+    ensures short { array_string_len words.new ≤ array_string_len words.old + length label.now + 20 }
+{
+    words.push_str(label);
+    words.push_str(Buffer::new().format(number));
 }

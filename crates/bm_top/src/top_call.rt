@@ -1,26 +1,85 @@
 //! The call that does all that the program does.
-ghost use Rattle.std.specs.Prelude.{◌≡◌, ◌≢◌, ◌↔◌, ◌⊎◌, ◌≤◌, ◌++◌, ℕ, length, IsTrue};
-ghost use Rattle.bm_base.specs.declared.shape.Shape.{Shape};
+
+ghost use Rattle.std.specs.Prelude.{◌≡◌, ◌≤◌, ◌++◌, Bool, IsTrue};
 ghost use Rattle.bm_base.specs.Count.{Rose};
-ghost use Rattle.bm_base.specs.ShapeRules.{broken_rule};
 ghost use Rattle.bm_rack.specs.Sink.{AppendsFront};
-ghost use Rattle.bm_top.specs.declared.words.Flip.{Flip};
-ghost use Rattle.bm_top.specs.Words.{IsFlip, IsPlan, IsNoCommand, flip_by};
+ghost use Rattle.bm_top.specs.Moment.{source_of, sink_of, devices_of, moment_of, tells_of};
 ghost use Rattle.bm_top.specs.StatusWords.{line_of};
-ghost use Rattle.bm_top.specs.RecordIo.{input_size};
-ghost use Rattle.bm_top.specs.Flip.{flipped};
-ghost use Rattle.bm_top.specs.FlipAnswers.{FlipInput, FlipOutput, FlipRack, IsUnhindered, IsOfWords};
-ghost use Rattle.bm_top.specs.PlanAnswers.{PlanJob, PlanSource, PlanOutput, IsAfterJob, IsPlanUnhindered};
+ghost use Rattle.bm_top.specs.Task.{TaskFits};
+ghost use Rattle.bm_top.specs.TopCall.{TaskCall, JobCall, TopCall};
 
 use crate::Status;
+use crate::commands::carry::run_carry;
+use crate::commands::drop::run_drop;
+use crate::commands::dump::run_dump;
 use crate::commands::flip::run_flip;
+use crate::commands::load::run_load;
+use crate::commands::new::run_new;
 use crate::commands::plan::run_plan;
-use crate::status_words::status_line;
-use crate::words::{Command, command_of};
-use bm_rack::{Rack, Sink, Source, write_all_of};
+use crate::commands::run::run_run;
+use crate::commands::status::run_status;
+use crate::job_reading::read_task;
+use crate::status_words::status_words;
+use crate::task::Task;
+use crate::words::{Command, Verb, command_of};
+use bm_rack::{Rack, Sink, Source};
+use bm_text::write_line;
 use std::alloc::Global;
 
-/// Carries out the command that the words spell.
+// Carries out a command whose job is read.
+fn run_task<R: Rack, S: Source, K: Sink>(
+    alloc: Global,
+    verb: Verb,
+    task: &Task,
+    input: &mut S,
+    out: &mut K,
+    rack: &mut R,
+) -> Status
+    requires { TaskFits task.now }
+    ensures { (told : Bool) → TaskCall
+        (tells_of told S.tells K.tells R.tells_stands R.tells_contents) verb task.now
+        (devices_of (source_of (S.left input.old) (S.faults input.old))
+        (sink_of (K.taken out.old) (K.faults out.old)) (R.view rack.old)) result
+        (devices_of (source_of (S.left input.new) (S.faults input.new))
+        (sink_of (K.taken out.new) (K.faults out.new)) (R.view rack.new)) }
+{
+    match verb {
+        Verb::New => run_new(task, rack),
+        Verb::Load => run_load(alloc, task, input, rack),
+        Verb::Plan => run_plan(task, out),
+        Verb::Run => run_run(alloc, task, out, rack),
+        Verb::Status => run_status(task, out, rack),
+        Verb::Dump => run_dump(alloc, task, out, rack),
+        Verb::Drop => run_drop(task, rack),
+        Verb::Carry => run_carry(alloc, task, input, out, rack),
+    }
+}
+
+// Carries out a command that has a job.
+fn run_on_job<R: Rack, J: Source, S: Source, K: Sink>(
+    alloc: Global,
+    verb: Verb,
+    job: &mut J,
+    input: &mut S,
+    out: &mut K,
+    rack: &mut R,
+) -> Status
+    ensures { JobCall
+        (tells_of J.tells S.tells K.tells R.tells_stands R.tells_contents) verb
+        (moment_of (source_of (J.left job.old) (J.faults job.old))
+        (devices_of (source_of (S.left input.old) (S.faults input.old))
+        (sink_of (K.taken out.old) (K.faults out.old)) (R.view rack.old))) result
+        (moment_of (source_of (J.left job.new) (J.faults job.new))
+        (devices_of (source_of (S.left input.new) (S.faults input.new))
+        (sink_of (K.taken out.new) (K.faults out.new)) (R.view rack.new))) }
+{
+    match read_task(alloc, job) {
+        Ok(task) => run_task(alloc, verb, &task, input, out, rack),
+        Err(status) => status,
+    }
+}
+
+// Carries out the command that the words spell.
 fn run_command<R: Rack, J: Source, S: Source, K: Sink>(
     alloc: Global,
     words: &[String],
@@ -29,53 +88,41 @@ fn run_command<R: Rack, J: Source, S: Source, K: Sink>(
     out: &mut K,
     rack: &mut R,
 ) -> Status
-    ensures usage { (result ≡ Status.Usage) ↔ IsNoCommand words.now }
-    ensures shape { (f : Flip) → IsFlip words.now f → (rule : ℕ)
-        → (result ≡ Status.JobShape rule)
-        ↔ ((rule ≢ 0) × (rule ≡ broken_rule f.n f.b f.d f.m f.width)) }
-    ensures refused { IsOfWords result
-        → (rack.new ≡ rack.old) × (input.new ≡ input.old) × (out.new ≡ out.old) }
-    ensures input { (s : Shape) (c : ℕ) → IsFlip words.now (flip_by s c)
-        → FlipInput S.tells (input_size s) result
-        (S.left input.old) (S.left input.new) (S.faults input.old) (S.faults input.new) }
-    ensures output { (s : Shape) (c : ℕ) → IsFlip words.now (flip_by s c)
-        → FlipOutput (IsTrue S.tells × IsTrue K.tells × IsTrue R.tells_contents)
-        (flipped s c (S.left input.old)) result
-        (K.taken out.old) (K.taken out.new) (K.faults out.old) (K.faults out.new) }
-    ensures rack { (s : Shape) (c : ℕ) → IsFlip words.now (flip_by s c)
-        → FlipRack R.tells_stands R.tells_contents s result (R.view rack.old) (R.view rack.new) }
-    ensures plan_job { IsPlan words.now → PlanJob (IsTrue J.tells) (J.left job.old) result }
-    ensures plan_source { IsPlan words.now → PlanSource (IsTrue J.tells) result
-        (J.left job.old) (J.left job.new) (J.faults job.old) (J.faults job.new) }
-    ensures plan_output { IsPlan words.now
-        → PlanOutput (IsTrue J.tells × IsTrue K.tells) (J.left job.old) result
-        (K.taken out.old) (K.taken out.new) (K.faults out.old) (K.faults out.new) }
-    ensures plan_untouched { IsPlan words.now → (rack.new ≡ rack.old) × (input.new ≡ input.old) }
-    ensures plan_unwritten { IsPlan words.now → (out.new ≡ out.old) ⊎ IsAfterJob result }
-    ensures job { ¬ IsPlan words.now → job.new ≡ job.old }
+    ensures { TopCall
+        (tells_of J.tells S.tells K.tells R.tells_stands R.tells_contents) words.now
+        (moment_of (source_of (J.left job.old) (J.faults job.old))
+        (devices_of (source_of (S.left input.old) (S.faults input.old))
+        (sink_of (K.taken out.old) (K.faults out.old)) (R.view rack.old))) result
+        (moment_of (source_of (J.left job.new) (J.faults job.new))
+        (devices_of (source_of (S.left input.new) (S.faults input.new))
+        (sink_of (K.taken out.new) (K.faults out.new)) (R.view rack.new))) }
 {
     match command_of(words) {
         Some(Command::Flip(flip)) => run_flip(alloc, &flip, input, out, rack),
-        Some(Command::Plan) => run_plan(alloc, job, out),
+        Some(Command::On(verb)) => run_on_job(alloc, verb, job, input, out, rack),
         None => Status::Usage,
     }
 }
 
 /// Carries out the command that the words spell, and writes the line of its answer to `err`.
 ///
-/// `flip n b d m width c` makes disks in the rack, loads the input into them, and writes to `out`
-/// each record y XOR c of the input in the place of record y. Its refusals come in this order:
-/// `Usage`; `JobShape`; `OutOfMemory` for two buffers of one memory load; then for the disks, which
-/// it makes and attaches, `RackFault`, `Exists`, `OutOfMemory`, `NoDisks`, `WrongDims`; then
-/// `DataFault`, `DataShort`, `RackFault`, `DataLong`, `SinkFault` as they are met.
+/// The words are `flip n b d m width c`, or `new`, `load`, `plan`, `run`, `status`, `dump`, `drop` or
+/// `carry` and any word that names the job. Every command but `flip` first reads the job source, up
+/// to 65537 bytes of it. The refusals up to there come in this order: `Usage`; `JobFault`; `JobText`,
+/// for a text of 65537 bytes and more too; `JobField`; `JobShape`; `JobMap`. A flip goes from `Usage`
+/// to `JobShape`. Then the plan and the buffers are made, and the disks attached or made:
+/// `RackFault`, `OutOfMemory`, and `NoDisks`, `WrongDims` or `Exists`.
 ///
-/// `plan JOB` reads the job source to its end, or 65537 bytes of it where it holds more, and writes
-/// to `out` the steps of the job's plan. It leaves the rack and the input as they are. Its refusals
-/// come in this order: `Usage`; `JobFault`; `JobText`, for a text of 65537 bytes and more too;
-/// `JobField`; `JobShape`; `JobMap`; `SinkFault`. `OutOfMemory` may come at any point of them before
-/// the first byte is written.
+/// - `new` makes the disks of the shape. `drop` closes the job that is open, else `NoJob`.
+/// - `plan` writes the steps of the job's plan, and touches no disks.
+/// - `load` reads the records of the input: `DataFault`, `DataShort` or `DataLong` as they are met.
+/// - `run` does the job, or goes on with it: `NotLoaded`, `OtherShape`, `OtherJob`, `BadPage`.
+/// - `status` tells how far the open job is, and `dump` writes its records once it is done: as `run`,
+///   and `NoJob`, `NotDone`.
+/// - `carry` and `flip` make the disks, load, run and dump.
 ///
-/// A write to `err` that fails ends that line, and changes nothing else.
+/// `RackFault` and `SinkFault` come as they are met. No memory is asked for once the disks are
+/// attached. A write to `err` that fails ends that line, and changes nothing else.
 pub fn bmmc_top<R: Rack, J: Source, S: Source, K: Sink, E: Sink>(
     alloc: Global,
     words: &[String],
@@ -85,49 +132,22 @@ pub fn bmmc_top<R: Rack, J: Source, S: Source, K: Sink, E: Sink>(
     err: &mut E,
     rack: &mut R,
 ) -> Status
-    // every command: the words, the job source and the line
-    ensures usage { (result ≡ Status.Usage) ↔ IsNoCommand words.now }
-    ensures refused { IsOfWords result
-        → (rack.new ≡ rack.old) × (input.new ≡ input.old) × (out.new ≡ out.old) }
-    ensures job { ¬ IsPlan words.now → job.new ≡ job.old }
+    ensures call { TopCall
+        (tells_of J.tells S.tells K.tells R.tells_stands R.tells_contents) words.now
+        (moment_of (source_of (J.left job.old) (J.faults job.old))
+        (devices_of (source_of (S.left input.old) (S.faults input.old))
+        (sink_of (K.taken out.old) (K.faults out.old)) (R.view rack.old))) result
+        (moment_of (source_of (J.left job.new) (J.faults job.new))
+        (devices_of (source_of (S.left input.new) (S.faults input.new))
+        (sink_of (K.taken out.new) (K.faults out.new)) (R.view rack.new))) }
+
+    // the last line
     ensures line { IsTrue E.tells → ¬ Rose (E.faults err.old) (E.faults err.new)
         → E.taken err.new ≡ E.taken err.old ++ line_of result }
     ensures front { IsTrue E.tells → AppendsFront (E.taken err.old) (E.taken err.new) (line_of result) }
     ensures faults { E.faults err.old ≤ E.faults err.new }
-
-    // a flip: the rule that its numbers break, or what it does for the shape that they are
-    ensures shape { (f : Flip) → IsFlip words.now f → (rule : ℕ)
-        → (result ≡ Status.JobShape rule)
-        ↔ ((rule ≢ 0) × (rule ≡ broken_rule f.n f.b f.d f.m f.width)) }
-    ensures input { (s : Shape) (c : ℕ) → IsFlip words.now (flip_by s c)
-        → FlipInput S.tells (input_size s) result
-        (S.left input.old) (S.left input.new) (S.faults input.old) (S.faults input.new) }
-    ensures output { (s : Shape) (c : ℕ) → IsFlip words.now (flip_by s c)
-        → FlipOutput (IsTrue S.tells × IsTrue K.tells × IsTrue R.tells_contents)
-        (flipped s c (S.left input.old)) result
-        (K.taken out.old) (K.taken out.new) (K.faults out.old) (K.faults out.new) }
-    ensures rack { (s : Shape) (c : ℕ) → IsFlip words.now (flip_by s c)
-        → FlipRack R.tells_stands R.tells_contents s result (R.view rack.old) (R.view rack.new) }
-    ensures complete { (s : Shape) (c : ℕ) → IsFlip words.now (flip_by s c)
-        → IsUnhindered R.tells_stands S.tells (input_size s) (R.view rack.old) (R.view rack.new)
-        (S.left input.old) (S.faults input.old) (S.faults input.new) (K.faults out.old) (K.faults out.new)
-        → (result ≡ Status.Done) ⊎ (result ≡ Status.OutOfMemory) }
-
-    // a plan: what its answer tells of the job text that the job source holds, and what it writes
-    ensures plan_job { IsPlan words.now → PlanJob (IsTrue J.tells) (J.left job.old) result }
-    ensures plan_source { IsPlan words.now → PlanSource (IsTrue J.tells) result
-        (J.left job.old) (J.left job.new) (J.faults job.old) (J.faults job.new) }
-    ensures plan_output { IsPlan words.now
-        → PlanOutput (IsTrue J.tells × IsTrue K.tells) (J.left job.old) result
-        (K.taken out.old) (K.taken out.new) (K.faults out.old) (K.faults out.new) }
-    ensures plan_untouched { IsPlan words.now → (rack.new ≡ rack.old) × (input.new ≡ input.old) }
-    ensures plan_unwritten { IsPlan words.now → (out.new ≡ out.old) ⊎ IsAfterJob result }
-    ensures plan_complete { IsPlan words.now
-        → IsPlanUnhindered (IsTrue J.tells) (J.left job.old)
-        (J.faults job.old) (J.faults job.new) (K.faults out.old) (K.faults out.new)
-        → (result ≡ Status.Done) ⊎ (result ≡ Status.OutOfMemory) }
 {
     let status = run_command(alloc, words, job, input, out, rack);
-    let _ = write_all_of(err, status_line(&status).as_str().as_bytes());
+    let _ = write_line(err, status_words(&status).as_str().as_bytes());
     status
 }

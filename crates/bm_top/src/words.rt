@@ -1,7 +1,12 @@
 //! The words of a command.
-ghost use Rattle.std.specs.Prelude.{◌≡◌, ◌≢◌, ◌↔◌, ℕ, ◌^◌, ◌<◌, ◌≤◌, IfSome, IfNone, IsTrue, decimal};
-ghost use Rattle.bm_top.specs.Words.{IsFlip, IsPlan, IsCommand, IsNoFlip, IsNoCommand};
 
+ghost use Rattle.std.specs.Prelude.{◌≡◌, ◌≢◌, ◌↔◌, ℕ, ◌^◌, ◌<◌, ◌≤◌, IfSome, IfNone, IsTrue};
+ghost use Rattle.std.specs.Prelude.{decimal};
+ghost use Rattle.bm_top.specs.declared.words.Verb.{Verb};
+ghost use Rattle.bm_top.specs.Words.{IsFlip, IsJobWords, NamesJob, IsCommand, IsNoFlip};
+ghost use Rattle.bm_top.specs.Words.{IsNoCommand, verb_word};
+
+use bm_base::MOST_ADDRESS_BITS;
 use itoa::Buffer;
 
 /// The numbers of the command `flip n b d m width c`.
@@ -21,21 +26,39 @@ pub struct Flip {
     pub c: u64,
 }
 
+/// A command that has a job: its word is followed by any other one, which names the job.
+#[derive(Clone, Copy, Debug, PartialEq, Eq)]
+pub enum Verb {
+    /// `new JOB`.
+    New,
+    /// `load JOB`.
+    Load,
+    /// `plan JOB`.
+    Plan,
+    /// `run JOB`.
+    Run,
+    /// `status JOB`.
+    Status,
+    /// `dump JOB`.
+    Dump,
+    /// `drop JOB`.
+    Drop,
+    /// `carry JOB`.
+    Carry,
+}
+
 /// A command.
 #[derive(Clone, Copy, Debug, PartialEq, Eq)]
 pub enum Command {
     /// `flip n b d m width c`.
     Flip(Flip),
-    /// `plan JOB`, where JOB is any word.
-    Plan,
+    /// A command that has a job.
+    On(Verb),
 }
 
-/// The most bits of an address.
-const MOST_BITS: u8 = 52;
-
-/// The number that a word spells in its one way, where it is at most `most`.
-///
-/// That way is decimal digits with no sign and no leading zero, but for `0` itself.
+// The number that a word spells in its one way, where it is at most `most`.
+//
+// That way is decimal digits with no sign and no leading zero, but for `0` itself.
 fn number_of(word: &str, most: u64) -> Option<u64>
     ensures found { IfSome result (λ n. (n ≤ most) × (word.now ≡ decimal n)) }
     ensures none { IfNone result ((n : ℕ) → n ≤ most → word.now ≢ decimal n) }
@@ -52,7 +75,7 @@ fn number_of(word: &str, most: u64) -> Option<u64>
     }
 }
 
-/// The number that a word spells, where it fits a byte.
+// The number that a word spells, where it fits a byte.
 fn byte_of(word: &str) -> Option<u8>
     ensures found { IfSome result (λ n. (n < 2 ^ 8) × (word.now ≡ decimal n)) }
     ensures none { IfNone result ((n : ℕ) → n < 2 ^ 8 → word.now ≢ decimal n) }
@@ -63,7 +86,7 @@ fn byte_of(word: &str) -> Option<u8>
     }
 }
 
-/// The number that a word spells, where it fits a width.
+// The number that a word spells, where it fits a width.
 fn width_of(word: &str) -> Option<u16>
     ensures found { IfSome result (λ n. (n < 2 ^ 16) × (word.now ≡ decimal n)) }
     ensures none { IfNone result ((n : ℕ) → n < 2 ^ 16 → word.now ≢ decimal n) }
@@ -74,14 +97,14 @@ fn width_of(word: &str) -> Option<u16>
     }
 }
 
-/// Whether c is an address of n bits, where a shape may have so many.
+// Whether c is an address of n bits, where a shape may have so many.
 fn is_address(c: u64, n: u8) -> bool
     ensures { IsTrue result ↔ (n ≤ 52 → c < 2 ^ n) }
 {
-    n > MOST_BITS || c < 1u64 << n
+    n > MOST_ADDRESS_BITS || c < 1u64 << n
 }
 
-/// The flip that the words spell, or nothing where they are none.
+// The flip that the words spell, or nothing where they are none.
 fn flip_of(words: &[String]) -> Option<Flip>
     ensures found { IfSome result (λ f. IsFlip words.now f) }
     ensures none { IfNone result (IsNoFlip words.now) }
@@ -113,13 +136,46 @@ fn flip_of(words: &[String]) -> Option<Flip>
     }
 }
 
-/// Whether the words are `plan` and another one.
-fn is_plan(words: &[String]) -> bool
-    ensures { IsTrue result ↔ IsPlan words.now }
+// The command that has a job and this word.
+fn verb_of(word: &str) -> Option<Verb>
+    ensures found { IfSome result (λ verb. word.now ≡ verb_word verb) }
+    ensures none { IfNone result ((verb : Verb) → word.now ≢ verb_word verb) }
+{
+    match word {
+        "new" => Some(Verb::New),
+        "load" => Some(Verb::Load),
+        "plan" => Some(Verb::Plan),
+        "run" => Some(Verb::Run),
+        "status" => Some(Verb::Status),
+        "dump" => Some(Verb::Dump),
+        "drop" => Some(Verb::Drop),
+        "carry" => Some(Verb::Carry),
+        _ => None,
+    }
+}
+
+// The command that has a job and is spelled by the words.
+fn job_command(words: &[String]) -> Option<Verb>
+    ensures found { IfSome result (λ verb. IsJobWords words.now verb) }
+    ensures none { IfNone result ((verb : Verb) → ¬ IsJobWords words.now verb) }
 {
     match words {
-        [name, _] => name.as_str() == "plan",
-        _ => false,
+        [name, _] => verb_of(name.as_str()),
+        _ => None,
+    }
+}
+
+/// The word that names the job, where the words are those of a command that has one.
+pub fn job_word(words: &[String]) -> Option<&str>
+    ensures found { IfSome result (λ job. (verb : Verb) × NamesJob words.now verb job.now) }
+    ensures none { IfNone result ((verb : Verb) → ¬ IsJobWords words.now verb) }
+{
+    match words {
+        [name, job] => match verb_of(name.as_str()) {
+            Some(_) => Some(job.as_str()),
+            None => None,
+        },
+        _ => None,
     }
 }
 
@@ -128,8 +184,8 @@ pub fn command_of(words: &[String]) -> Option<Command>
     ensures found { IfSome result (λ command. IsCommand words.now command) }
     ensures none { IfNone result (IsNoCommand words.now) }
 {
-    if is_plan(words) {
-        return Some(Command::Plan);
+    if let Some(verb) = job_command(words) {
+        return Some(Command::On(verb));
     }
     match flip_of(words) {
         Some(flip) => Some(Command::Flip(flip)),

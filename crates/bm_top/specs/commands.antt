@@ -1,0 +1,9 @@
+-- What each command does, by its word.
+pub mod New
+pub mod Load
+pub mod Plan
+pub mod Run
+pub mod Status
+pub mod Dump
+pub mod Drop
+pub mod Carry
