@@ -1,127 +1,175 @@
--- Loads of bytes from a source, as records of an area.
-use Rattle.std.proofs.Common.{◌≡◌, ◌≢◌, ℕ, ◌+◌, ◌-◌, ◌*◌, ◌/◌, ◌%◌, ◌^◌, ◌<◌, ◌≤◌, ⊎_elim, Bool, IsTrue, List, [], ◌∷◌, ◌++◌, length, take, drop, refl, sym, ◌∙◌, ap, subst, arith, length-append, length-drop}
-use Rattle.std.proofs.lemmas.List.{drop-append-le, take-append-le, drop-drop, drop_at}
-use Rattle.std.proofs.lemmas.Nat.{pow_pos, div_below, mod_below, div-add-mod'}
-use Rattle.std.proofs.lemmas.Bool.{cases_eq, cases_lt}
-use Rattle.std.proofs.Math.Pow.{pow_mono}
-use Rattle.std.proofs.Math.Nat.{mul-le-mul_right, le-mul_of_pos_right}
-use Rattle.bm_base.specs.declared.shape.Shape.{Shape}
-use Rattle.bm_base.specs.declared.area.Area.{Area}
-use Rattle.bm_base.specs.Records.{record_at}
-use Rattle.bm_rack.specs.RackView.{RackView}
-use Rattle.bm_rack.specs.Frames.{ChangesOnly}
-use Rattle.bm_stripe.specs.Units.{IsLoadUnit}
-use Rattle.bm_stripe.proofs.UnitLemmas.{record_at-other_load}
-use Rattle.bm_top.specs.RecordIo.{input_size, load_size, EndsAfter}
-use Rattle.bm_top.proofs.RecordIoLemmas.{load_records, loads_records}
+-- The command `load`.
+use Rattle.std.proofs.Common.{Ok, Err, ◌≡◌, ◌≢◌, inl, ℕ, ◌+◌, ◌≤◌, IsTrue, Some, Result, IsOk, IfErr, OnOk, refl, ap, ◌∙◌, arith}
+use Rattle.bm_base.specs.Contents.{page_at}
+use Rattle.bm_base.specs.Count.{raised, Rose}
+use Rattle.bm_base.specs.Shape.{dims_of, stripes, input_size}
+use Rattle.bm_rack.specs.RackView.{RackView, IsClean, IsWellFormed}
+use Rattle.bm_rack.specs.Image.{InEveryImage}
+use Rattle.bm_rack.specs.Frames.{RackCall, HasCause, MakesCalls}
+use Rattle.bm_rack.proofs.FrameLemmas.{Keeps-trans, HasCause-later}
+use Rattle.bm_control.specs.Pages.{job_gate}
+use Rattle.bm_control.specs.Sound.{IsSound}
+use Rattle.bm_disks.specs.Input.{IsRead, InputAnswer, IsInputRefusal}
+use Rattle.bm_disks.specs.Loading.{AreGatesClosed, HasLoad, HoldsInput, IsLoadingUnit, OpensWhole}
+use Rattle.bm_disks.proofs.GateLemmas.{shut_closed}
+use Rattle.bm_disks.specs.declared.load_error.LoadError.{LoadError}
+use Rattle.bm_disks.specs.declared.load_error.LoadError.TheVariants as load
+use Rattle.bm_top.specs.Causes.{CauseOf, HasDisks}
+use Rattle.bm_top.specs.DiskStatus.{load_status}
+use Rattle.bm_top.specs.Exits.{AttachedFrom}
+use Rattle.bm_top.specs.Moment.{Devices, SourceView, Tells, TellsRack}
+use Rattle.bm_top.specs.Status.{IsBeforeDisks, IsOfInput}
+use Rattle.bm_top.specs.TopCall.{TaskCall, NoFaults, IsDoneUnlessMemory}
+use Rattle.bm_top.specs.commands.Load.{LoadMay, LoadDone, LoadRefused, LoadCase}
+use Rattle.bm_top.specs.declared.task.Task.{Task}
+use Rattle.bm_top.specs.declared.words.Verb.TheVariants as verbs
+use Rattle.bm_top.specs.declared.status.Status.{Status}
+use Rattle.bm_top.specs.declared.status.Status.TheVariants.{Done, OutOfMemory, RackFault}
+use Rattle.bm_top.proofs.AttachedLemmas.{disks_stand}
+use Rattle.bm_top.proofs.ExitLemmas.{CallsGrow-same, CallsGrow-trans}
+use Rattle.bm_top.proofs.SameDisksLemmas.{sound_kept}
+use Rattle.bm_top.proofs.OpensLemmas.{opens_from}
 
--- a record of the bytes that filled a buffer
-pub record_of_fill : (size width load i : ℕ) (all buf rest : List ℕ) → i < size → length buf ≡ size * width
-    → drop (size * width * load) all ≡ buf ++ rest
-    → take width (drop (i * width) buf) ≡ take width (drop ((size * load + i) * width) all)
-record_of_fill size width load i all buf rest below long is =
-    let inside : (i + 1) * width ≤ size * width = mul-le-mul_right width (omega arith) in
-    let place : (size * load + i) * width ≡ size * width * load + i * width = omega arith in
-    let left : length (drop (i * width) buf) ≡ length buf - i * width = length-drop (i * width) buf in
-    sym
-    (ap (λ (n : ℕ). take width (drop n all)) place
-    ∙ ap (λ (z : List ℕ). take width z) (sym (drop-drop (i * width) (size * width * load) all))
-    ∙ ap (λ (z : List ℕ). take width (drop (i * width) z)) is
-    ∙ ap (λ (z : List ℕ). take width z) (drop-append-le (i * width) buf rest (omega arith))
-    ∙ take-append-le width (drop (i * width) buf) rest (omega arith))
+-- what a load did to attached disks, and to its source
+pub record InputLoaded (t : Tells) (task : Task) (old : SourceView) (mid : RackView) (r : Result (Unit {0}) LoadError) (new : RackView)
+    (input : SourceView) : Type 0 where
+  pub answer : InputAnswer t.input (input_size task.shape) old.left input.left r
+  pub few : IsTrue t.input → IsRead (input_size task.shape + 1) old.left input.left
+  pub data_fault : r ≡ Err load.DataFault → Rose old.faults input.faults
+  pub data_faults : old.faults ≤ input.faults
+  pub records : IsTrue t.input → IsTrue t.contents → OnOk r (HoldsInput task.shape old.left new.contents)
+  pub gates : IsTrue t.contents → OnOk r (HasLoad task.shape mid.contents new.contents)
+  pub clean : OnOk r (IsClean new)
+  pub closed : IsTrue t.contents → IfErr r (λ e. IsInputRefusal e → AreGatesClosed new)
+  pub sound : TellsRack t → IsSound mid → IsSound new
+  pub mended : TellsRack t → ¬ (r ≡ Err load.Failed) → IsSound new
+  pub opened : TellsRack t → IsTrue t.input → IsSound mid → InEveryImage (OpensWhole task.shape old.left mid) new
+  pub call : RackCall (IsLoadingUnit task.shape) (r ≡ Err load.Failed) mid new
+  pub counts : MakesCalls (IsOk r) (stripes task.shape) 6 5 mid new
 
--- what is left after one load more
-pub left_after_fill : (size load : ℕ) (all now buf left : List ℕ) → size * load ≤ length all → now ≡ drop (size * load) all
-    → now ≡ buf ++ left → length buf ≡ size
-    → (size * (load + 1) ≤ length all) × (left ≡ drop (size * (load + 1)) all)
-left_after_fill size load all now buf left before was is long =
-    let rest : length now ≡ length all - size * load = ap length was ∙ length-drop (size * load) all in
-    let parts : length now ≡ length buf + length left = ap length is ∙ length-append buf left in
-    let more : size * (load + 1) ≡ size * load + size = omega arith in (
-      omega arith,
-      sym (drop_at buf left size long)
-          ∙ ap (λ (z : List ℕ). drop size z) (sym is ∙ was)
-          ∙ drop-drop size (size * load) all
-          ∙ ap (λ (n : ℕ). drop n all) (sym more),
-    )
+-- the answer of the command
+abbrev pub load_answer : Result (Unit {0}) LoadError → Status
+load_answer (Ok x) = Done
+load_answer (Err e) = load_status e
 
--- the input's bytes fit a word, but for one
-pub input_fits : (s : Shape) → input_size s ≤ 2 ^ 64
-input_fits s =
-    let few : 2 ^ s.n ≤ 2 ^ 52 = pow_mono {i = s.n} {j = 52} s.keeps.addresses in
-    let wide : 2 ^ s.n * s.width ≤ 2 ^ 52 * s.width = mul-le-mul_right s.width few in
-    omega (arith, s.keeps.record_few)
+may : (r : Result (Unit {0}) LoadError) → LoadMay (load_answer r)
+may (Ok x) = tt
+may (Err load.Failed) = tt
+may (Err load.DataFault) = tt
+may (Err (load.DataShort got)) = tt
+may (Err load.DataLong) = tt
 
--- the bytes of the loads up to this one
-pub load_bytes_fit : (s : Shape) (load : ℕ) → load < 2 ^ (s.n - s.m) → load * load_size s + load_size s ≤ input_size s
-load_bytes_fit s load below =
-    let wide : 2 ^ s.m * (load + 1) * s.width ≤ 2 ^ s.n * s.width = mul-le-mul_right s.width (load_records s load below) in
-    omega arith
+no_memory : (r : Result (Unit {0}) LoadError) → load_answer r ≢ OutOfMemory
+no_memory (Ok x) is = (cc)
+no_memory (Err load.Failed) is = (cc)
+no_memory (Err load.DataFault) is = (cc)
+no_memory (Err (load.DataShort got)) is = (cc)
+no_memory (Err load.DataLong) is = (cc)
 
--- the bytes of all loads
-pub all_bytes : (s : Shape) (load : ℕ) → load ≡ 2 ^ (s.n - s.m) → load_size s * load ≡ input_size s
-all_bytes s load last =
-    ap (λ (k : ℕ). load_size s * k) last
-    ∙ (let e : 2 ^ s.m * s.width * 2 ^ (s.n - s.m) ≡ 2 ^ s.m * 2 ^ (s.n - s.m) * s.width = omega arith in e)
-    ∙ ap (λ (k : ℕ). k * s.width) (loads_records s)
+late : (r : Result (Unit {0}) LoadError) → ¬ IsBeforeDisks (load_answer r)
+late (Ok x) = λ of. of
+late (Err load.Failed) = λ of. of
+late (Err load.DataFault) = λ of. of
+late (Err (load.DataShort got)) = λ of. of
+late (Err load.DataLong) = λ of. of
 
--- the bytes of the loads before fit a word
-pub load_start_fits : (s : Shape) (load : ℕ) → load < 2 ^ (s.n - s.m) → load * load_size s < 2 ^ 64
-load_start_fits s load below =
-    let some : 2 ^ s.m ≤ 2 ^ s.m * s.width = le-mul_of_pos_right {m = s.width} (2 ^ s.m) (omega (arith, s.keeps.record_some)) in
-    let one : 0 < 2 ^ s.m = pow_pos s.m in
-    omega (arith, load_bytes_fit s load below, input_fits s)
+failed : (r : Result (Unit {0}) LoadError) → load_answer r ≡ RackFault → r ≡ Err load.Failed
+failed (Ok x) is = absurd (cc)
+failed (Err load.Failed) is = refl
+failed (Err load.DataFault) is = absurd (cc)
+failed (Err (load.DataShort got)) is = absurd (cc)
+failed (Err load.DataLong) is = absurd (cc)
 
--- the end of the input within a load
-pub ends_in_load : (told : Bool) (s : Shape) (load got : ℕ) (all now left : List ℕ) → load < 2 ^ (s.n - s.m)
-    → (IsTrue told → load_size s * load ≤ length all) → (IsTrue told → now ≡ drop (load_size s * load) all)
-    → EndsAfter told (load_size s) now left got → EndsAfter told (input_size s) all left (load * load_size s + got)
-ends_in_load told s load got all now left below before was ends =
-    let fits = load_bytes_fit s load below in (
-      omega (arith, ends.0),
-      λ t. (omega (arith, before t, (ends.1 t).0, ap length (was t), length-drop (load_size s * load) all), (ends.1 t).1),
-    )
+cause : (t : Tells) (task : Task) (d : Devices) (input : SourceView) (before mid new : RackView) (r : Result (Unit {0}) LoadError)
+    → HasDisks t verbs.Load task (record d { rack = before }) → InputLoaded t task d.input mid r new input
+    → HasCause (r ≡ Err load.Failed) before new
+    → CauseOf t verbs.Load task (record d { rack = before }) (load_answer r) (record d { input = input; rack = new })
+cause t task d input before mid new (Ok x) stand j why = stand
+cause t task d input before mid new (Err load.Failed) stand j why = why.rose refl
+cause t task d input before mid new (Err load.DataFault) stand j why = (stand, j.data_fault refl)
+cause t task d input before mid new (Err (load.DataShort got)) stand j why = (stand, j.answer)
+cause t task d input before mid new (Err load.DataLong) stand j why = (stand, j.answer)
 
--- The records of one load more were written.
-pub loads_written : (s : Shape) (area : Area) (load : ℕ) (old new : RackView) (records : ℕ → List ℕ)
-    → ChangesOnly (IsLoadUnit s area load) old new
-    → ((x : ℕ) → x < 2 ^ s.m * load → record_at old.contents s area x ≡ records x)
-    → ((i : ℕ) → i < 2 ^ s.m → record_at new.contents s area (2 ^ s.m * load + i) ≡ records (2 ^ s.m * load + i))
-    → (x : ℕ) → x < 2 ^ s.m * (load + 1) → record_at new.contents s area x ≡ records x
-loads_written s area load old new records only before here x below =
-    let split : x / 2 ^ s.m * 2 ^ s.m + x % 2 ^ s.m ≡ x = div-add-mod' x (2 ^ s.m) in
-    ⊎_elim
-    (λ (p : x / 2 ^ s.m ≡ load).
-    let back : 2 ^ s.m * (x / 2 ^ s.m) + x % 2 ^ s.m ≡ x = omega arith in
-    let whole : 2 ^ s.m * load + x % 2 ^ s.m ≡ x = ap (λ (n : ℕ). 2 ^ s.m * n + x % 2 ^ s.m) (sym p) ∙ back in
-    subst (λ (n : ℕ). record_at new.contents s area n ≡ records n) whole (here (x % 2 ^ s.m) (mod_below x (2 ^ s.m) (pow_pos s.m))))
-    (λ (p : x / 2 ^ s.m ≢ load).
-    let first : x / 2 ^ s.m < load + 1 = div_below x (2 ^ s.m) (load + 1) (pow_pos s.m) (omega arith) in
-    let end : (x / 2 ^ s.m + 1) * 2 ^ s.m ≤ load * 2 ^ s.m = mul-le-mul_right (2 ^ s.m) (omega arith) in
-    let within : x % 2 ^ s.m < 2 ^ s.m = mod_below x (2 ^ s.m) (pow_pos s.m) in
-    let early : x < 2 ^ s.m * load = omega arith in
-    record_at-other_load old new s area load x only p ∙ before x early)
-    (cases_eq (x / 2 ^ s.m) load)
+done : (t : Tells) (task : Task) (d : Devices) (input : SourceView) (before mid new : RackView) (r : Result (Unit {0}) LoadError)
+    → AttachedFrom before mid → InputLoaded t task d.input mid r new input → load_answer r ≡ Done
+    → LoadDone t task (record d { rack = before }) (record d { input = input; rack = new })
+done t task d input before mid new (Ok x) from j is = record {
+  size = λ told. (j.answer told).0;
+  ended = λ told. (j.answer told).1;
+  records = λ told rack. j.records told rack;
+  load_body = λ told. (j.gates told).body;
+  load_gate = λ told. (j.gates told).opened;
+  job_gate = λ told. shut_closed (page_at mid.contents job_gate) (page_at new.contents job_gate) (j.gates told).no_job;
+  clean = j.clean;
+  sound = λ told. j.mended told (λ e. (cc));
+  moves = j.counts.done refl ∙ ap (λ (n : ℕ). raised n (stripes task.shape)) from.calls.moves;
+}
+done t task d input before mid new (Err load.Failed) from j is = absurd (cc)
+done t task d input before mid new (Err load.DataFault) from j is = absurd (cc)
+done t task d input before mid new (Err (load.DataShort got)) from j is = absurd (cc)
+done t task d input before mid new (Err load.DataLong) from j is = absurd (cc)
 
--- the source ended after the bytes of all records
-pub input_whole : (size : ℕ) (all now left : List ℕ) → size ≤ length all → now ≡ drop size all
-    → now ≡ [] → left ≡ drop 1 now
-    → (length all ≡ size) × (left ≡ [])
-input_whole size all now left some was ended is =
-    let none : length now ≡ 0 = ap length ended in
-    let rest : length now ≡ length all - size = ap length was ∙ length-drop size all in
-    (omega arith, is ∙ ap (λ (z : List ℕ). drop 1 z) ended)
+-- what an input that is refused leaves
+closed_by : (new : RackView) → IsSound new → AreGatesClosed new → LoadRefused new
+closed_by new sound closed = record {
+  load_gate = λ dims image stands i. (closed dims image stands i).0;
+  job_gate = λ dims image stands i. (closed dims image stands i).1;
+  sound = sound;
+}
 
-empty_list : (xs : List ℕ) → length xs ≡ 0 → xs ≡ []
-empty_list [] h = refl
-empty_list (x ∷ xs) h = absurd (omega arith)
+refused : (t : Tells) (task : Task) (old input : SourceView) (mid new : RackView) (r : Result (Unit {0}) LoadError)
+    → InputLoaded t task old mid r new input → TellsRack t → IsOfInput (load_answer r) → LoadRefused new
+refused t task old input mid new (Ok x) j told of = absurd of
+refused t task old input mid new (Err load.Failed) j told of = absurd of
+refused t task old input mid new (Err load.DataFault) j told of = closed_by new (j.mended told (λ e. (cc))) (j.closed told.1 tt)
+refused t task old input mid new (Err (load.DataShort got)) j told of = closed_by new (j.mended told (λ e. (cc))) (j.closed told.1 tt)
+refused t task old input mid new (Err load.DataLong) j told of = closed_by new (j.mended told (λ e. (cc))) (j.closed told.1 tt)
 
--- the source went on after the bytes of all records
-pub input_long : (size : ℕ) (all now left : List ℕ) → size ≤ length all → now ≡ drop size all
-    → now ≢ [] → left ≡ drop 1 now
-    → (size < length all) × (left ≡ drop (size + 1) all)
-input_long size all now left some was more is =
-    let rest : length now ≡ length all - size = ap length was ∙ length-drop size all in
-    let longer : size < length all = ⊎_elim (λ (p : size < length all). p)
-    (λ (p : length all ≤ size). absurd (more (empty_list now (omega arith)))) (cases_lt size (length all)) in
-    (longer, is ∙ ap (λ (z : List ℕ). drop 1 z) was ∙ drop-drop 1 size all)
+complete : (t : Tells) (task : Task) (d : Devices) (input : SourceView) (before mid new : RackView) (r : Result (Unit {0}) LoadError)
+    → InputLoaded t task d.input mid r new input → HasCause (r ≡ Err load.Failed) before new → LoadCase t task (record d { rack = before })
+    → NoFaults (record d { rack = before }) (record d { input = input; rack = new }) → IsDoneUnlessMemory (load_answer r)
+complete t task d input before mid new (Ok x) j why is calm = inl refl
+complete t task d input before mid new (Err load.Failed) j why is calm = absurd (calm.rack (why.rose refl))
+complete t task d input before mid new (Err load.DataFault) j why is calm = absurd (calm.input (j.data_fault refl))
+complete t task d input before mid new (Err (load.DataShort got)) j why is calm =
+    (let less = j.answer.0 in let got_all = (j.answer.1 is.input_told).0 in let size = is.size in absurd (omega
+    (arith, less, got_all, size)))
+complete t task d input before mid new (Err load.DataLong) j why is calm =
+    (let more = (j.answer is.input_told).0 in let size = is.size in absurd (omega (arith, more, size)))
+
+-- What the command does, by what it did to its disks and its source.
+pub load_done : (t : Tells) (task : Task) (d : Devices) (input : SourceView) (before mid new : RackView) (r : Result (Unit {0}) LoadError)
+    → IsWellFormed t.stands t.contents mid → mid.attached ≡ Some (dims_of task.shape) → AttachedFrom before mid
+    → InputLoaded t task d.input mid r new input
+    → TaskCall t verbs.Load task (record d { rack = before }) (load_answer r) (record d { input = input; rack = new })
+load_done t task d input before mid new r well attached from j =
+    let why = HasCause-later _ before mid new from.keeps j.call.cause in
+    record {
+      may = may r;
+      cause = cause t task d input before mid new r (disks_stand t task before mid well attached from) j why;
+      done = done t task d input before mid new r from j;
+      leaves = record {
+        refused = refused t task d.input input mid new r j;
+        opened = λ told input sound. opens_from task.shape d.input.left before mid new from.disks
+            (j.opened told input (sound_kept before mid from.disks sound));
+        unread = λ of. absurd (late r of);
+        same = λ of. absurd (late r of);
+        moves = (let e = from.calls.moves in let low = j.counts.moves_low in let high = j.counts.moves_high in
+            record { low = omega (arith, e, low); high = omega (arith, e, high) });
+        out = refl;
+      };
+      each = record {
+        sound = λ told sound. j.sound told (sound_kept before mid from.disks sound);
+        stands = λ told. inl (j.call.frame.stands ∙ from.disks.stands);
+        keeps = Keeps-trans before mid new from.keeps j.call.keeps;
+        fault = record { rose = λ is. why.rose (failed r is); sure = λ steady going is. why.sure steady going (failed r is) };
+        calls = λ of. absurd (late r of);
+        grow = CallsGrow-trans before mid new (CallsGrow-same before mid from.calls)
+            (record { moves = j.counts.moves_low; pages = j.counts.pages_low; syncs = j.counts.syncs_low });
+        unattached = λ is. absurd (no_memory r is);
+        few = j.few;
+        input_faults = j.data_faults;
+        out_faults = omega arith;
+      };
+      complete = complete t task d input before mid new r j why;
+    }

@@ -1,13 +1,16 @@
--- The words of a flip, one by one.
-use Rattle.std.proofs.Common.{◌≡◌, ℕ, ◌<◌, List, [], ◌∷◌, length, get_or, Option, Some, None, String, Global, string_bytes, codes, refl, sym, ap, subst, ◌∙◌, arith}
+-- The words of a command, one by one.
+use Rattle.std.proofs.Common.{◌≡◌, ℕ, ◌<◌, ◌==◌, if◌then◌else◌, List, [], ◌∷◌, length, get_or, Option, Some, None, String, Global}
+use Rattle.std.proofs.Common.{string_bytes, refl, sym, ap, subst, ◌∙◌, arith}
 use Rattle.std.specs.Fmt.{decimal}
 use Rattle.std.proofs.lemmas.Fmt.{decimal_injective}
 use Rattle.std.proofs.lemmas.List.{get_or-map}
-use Rattle.std.specs.Option.{IfNone}
+use Rattle.std.specs.Option.{IfSome, IfNone}
 use Rattle.bm_top.specs.declared.words.Flip.{Flip}
 use Rattle.bm_top.specs.declared.words.Command.{Command}
 use Rattle.bm_top.specs.declared.words.Command.TheVariants as command
-use Rattle.bm_top.specs.Words.{IsFlip, IsPlan, IsCommand, texts_of, spelled}
+use Rattle.bm_top.specs.declared.words.Verb.{Verb}
+use Rattle.bm_top.specs.declared.words.Verb.TheVariants as verbs
+use Rattle.bm_top.specs.Words.{IsFlip, IsJobWords, NamesJob, IsCommand, verb_word, texts_of, spelled}
 
 -- a fact holds where nothing was found, if it holds anyway
 pub if_none : {T : Type 0} (o : Option T) {P : Type 0} → P → IfNone o P
@@ -78,19 +81,71 @@ IsFlip-unique words f g x y =
 pub the_flip : (words : List (String Global)) (c : Command) (f g : Flip) → c ≡ command.Flip f → IsCommand words c → IsFlip words g → f ≡ g
 the_flip words c f g same is other = IsFlip-unique words f g (subst (IsCommand words) same is) other
 
--- two words of which the first is `plan`
-pub two_words : (words : List (String Global)) (w : String Global) → length words ≡ 2 → w ≡ get_or words 0 w
-    → string_bytes w ≡ codes "plan" → IsPlan words
-two_words ([]) w two at name = absurd (omega (arith, two))
-two_words (a ∷ []) w two at name = absurd (omega (arith, two))
-two_words (a ∷ b ∷ c ∷ rest) w two at name = absurd (omega (arith, two))
-two_words (a ∷ b ∷ []) w two at name =
-    record { job = string_bytes b; words_are = ap (λ (x : List ℕ). x ∷ string_bytes b ∷ []) (ap string_bytes (sym at) ∙ name) }
+-- two words spell the command of the first one, and name a job by the second
+pub two_words : (words : List (String Global)) (a b : String Global) (verb : Verb) → length words ≡ 2 → a ≡ get_or words 0 a
+    → b ≡ get_or words 1 b
+    → string_bytes a ≡ verb_word verb → NamesJob words verb (string_bytes b)
+two_words ([]) a b verb two at0 at1 name = absurd (omega (arith, two))
+two_words (x ∷ []) a b verb two at0 at1 name = absurd (omega (arith, two))
+two_words (x ∷ y ∷ z ∷ rest) a b verb two at0 at1 name = absurd (omega (arith, two))
+two_words (x ∷ y ∷ []) a b verb two at0 at1 name =
+    ap (λ (w : List ℕ). w ∷ string_bytes y ∷ []) (ap string_bytes (sym at0) ∙ name)
+    ∙ ap (λ (w : List ℕ). verb_word verb ∷ w ∷ []) (ap string_bytes (sym at1))
 
--- the first word of a plan
-pub plan_name : (words : List (String Global)) (w : String Global) → w ≡ get_or words 0 w → IsPlan words → string_bytes w ≡ codes "plan"
-plan_name ([]) w at is = let spelt = is.words_are in absurd (cc)
-plan_name (a ∷ rest) w at is =
-    let spelt = is.words_are in
-    let first : string_bytes a ≡ codes "plan" = cc in
+-- the first word of a command that has a job
+pub verb_name : (words : List (String Global)) (w : String Global) (verb : Verb) → w ≡ get_or words 0 w → IsJobWords words verb
+    → string_bytes w ≡ verb_word verb
+verb_name ([]) w verb at is = let spelt = is.1 in absurd (cc)
+verb_name (a ∷ rest) w verb at is =
+    let spelt = is.1 in
+    let first : string_bytes a ≡ verb_word verb = cc in
     ap string_bytes at ∙ first
+
+-- the command of a word
+verb_from : List ℕ → Verb
+verb_from word =
+    let first = get_or word 0 0 in
+    let second = get_or word 1 0 in
+    if first == 110 then verbs.New else
+    if first == 108 then verbs.Load else
+    if first == 112 then verbs.Plan else
+    if first == 115 then verbs.Status else
+    if first == 99 then verbs.Carry else
+    if second == 114 then verbs.Drop else
+    if first == 100 then verbs.Dump else verbs.Run
+
+verb_back : (verb : Verb) → verb_from (verb_word verb) ≡ verb
+unfolding verb_from
+verb_back verbs.New = refl
+verb_back verbs.Load = refl
+verb_back verbs.Plan = refl
+verb_back verbs.Run = refl
+verb_back verbs.Status = refl
+verb_back verbs.Dump = refl
+verb_back verbs.Drop = refl
+verb_back verbs.Carry = refl
+
+-- words spell one command that has a job
+pub the_verb : (words : List (String Global)) (v w : Verb) → IsJobWords words v → IsJobWords words w → v ≡ w
+the_verb words v w one other =
+    let same : verb_word v ∷ one.0 ∷ [] ≡ verb_word w ∷ other.0 ∷ [] = sym one.1 ∙ other.1 in
+    let word : verb_word v ≡ verb_word w = cc in
+    sym (verb_back v) ∙ ap verb_from word ∙ verb_back w
+
+-- and no flip
+pub verb_no_flip : (words : List (String Global)) (verb : Verb) (f : Flip) → IsJobWords words verb → ¬ IsFlip words f
+verb_no_flip words verb f is flip =
+    let same : verb_word verb ∷ is.0 ∷ [] ≡ spelled f = sym is.1 ∙ flip.words_are in
+    let long : length (verb_word verb ∷ is.0 ∷ []) ≡ length (spelled f) = ap length same in
+    absurd (omega (arith, long))
+
+-- the first of two words is that of a command that has a job
+pub job_words : (words : List (String Global)) (a : String Global) (name : List ℕ) (verb : Option Verb) → length words ≡ 2
+    → a ≡ get_or words 0 a
+    → name ≡ string_bytes a → IfSome verb (λ v. name ≡ verb_word v) → IfSome verb (λ v. IsJobWords words v)
+job_words words a name None two at is found = tt
+job_words ([]) a name (Some v) two at is found = absurd (omega (arith, two))
+job_words (x ∷ []) a name (Some v) two at is found = absurd (omega (arith, two))
+job_words (x ∷ y ∷ z ∷ rest) a name (Some v) two at is found = absurd (omega (arith, two))
+job_words (x ∷ y ∷ []) a name (Some v) two at is found =
+    (string_bytes y, two_words (x ∷ y ∷ []) a y v two at refl (sym is ∙ found))

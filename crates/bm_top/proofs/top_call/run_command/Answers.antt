@@ -1,20 +1,20 @@
-use Rattle.std.proofs.Common.{◌≡◌, ◌≢◌, ℕ, ◌↔◌, subst}
-use Rattle.bm_top.specs.declared.words.Flip.{Flip}
-use Rattle.bm_top.specs.declared.status.Status.TheVariants.{JobShape}
-use Rattle.bm_base.specs.ShapeRules.{broken_rule}
-use Rattle.bm_top.proofs.WordsLemmas.{the_flip}
+use Rattle.std.proofs.Common.{subst}
+use Rattle.bm_top.specs.Moment.{source_of}
+use Rattle.bm_top.specs.Words.{IsCommand}
+use Rattle.bm_top.proofs.TopCallLemmas.{top_usage, top_job, top_flip, job_known}
 use Rattle.bm_top.proofs.top_call.run_command.Goals as goal
 
-pub returns-in-Some-Flip-clause-shape : goal.returns-in-Some-Flip-clause-shape
-returns-in-Some-Flip-clause-shape g c f is =
-    let Breaks : Flip → Type 0 = λ f. (rule : ℕ) → (c.run_flip.result ≡ JobShape rule) ↔ ((rule ≢ 0) × (rule ≡ broken_rule f.n f.b f.d f.m f.width)) in
-    subst Breaks (the_flip _ _ _ _ c.in-Some-Flip.field-0-is c.in-Some-Flip.ensures.found is) c.run_flip.ensures.shape
+pub returns-in-Some-Flip : goal.returns-in-Some-Flip
+returns-in-Some-Flip g c =
+    top_flip _ c.args.words.now c.in-Some-Flip.flip _ c.run_flip.result _
+    (subst (IsCommand c.args.words.now) c.in-Some-Flip.field-0-is c.in-Some-Flip.ensures.found) c.run_flip.ensures.usage
+    (c.run_flip.ensures.flip g.J.Source.tells (source_of (g.J.Source.left c.args.job.now) (g.J.Source.faults c.args.job.now)))
 
-pub returns-in-Some-Flip-clause-input : goal.returns-in-Some-Flip-clause-input
-returns-in-Some-Flip-clause-input g c s x is = c.run_flip.ensures.input s x (the_flip _ _ _ _ c.in-Some-Flip.field-0-is c.in-Some-Flip.ensures.found is)
+pub returns-in-Some-On : goal.returns-in-Some-On
+returns-in-Some-On g c =
+    top_job _ c.args.words.now c.in-Some-On.verb _ c.run_on_job.result _
+    (subst (IsCommand c.args.words.now) c.in-Some-On.field-0-is c.in-Some-On.ensures.found)
+    (job_known _ _ _ _ _ c.run_on_job.ensures) c.run_on_job.ensures
 
-pub returns-in-Some-Flip-clause-output : goal.returns-in-Some-Flip-clause-output
-returns-in-Some-Flip-clause-output g c s x is = c.run_flip.ensures.output s x (the_flip _ _ _ _ c.in-Some-Flip.field-0-is c.in-Some-Flip.ensures.found is)
-
-pub returns-in-Some-Flip-clause-rack : goal.returns-in-Some-Flip-clause-rack
-returns-in-Some-Flip-clause-rack g c s x is = c.run_flip.ensures.rack s x (the_flip _ _ _ _ c.in-Some-Flip.field-0-is c.in-Some-Flip.ensures.found is)
+pub returns-in-None : goal.returns-in-None
+returns-in-None g c = top_usage _ c.args.words.now _ c.in-None.ensures.none

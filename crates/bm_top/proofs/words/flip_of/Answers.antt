@@ -53,7 +53,8 @@ returns-then-not-is_address-clause-none c f is =
     let n_spelt = word_at words f 1 c.n-item.result is.words_are (omega (arith, c.in-len7.len_at_least)) c.n-item.is in
     let c_spelt = word_at words f 6 c.c-item.result is.words_are (omega (arith, c.in-len7.len_at_least)) c.c-item.is in
     let n : decimal c.in_ok-n-in-len7.n ≡ decimal f.n = sym c.in_ok-n-in-len7.ensures.found.1 ∙ c.as_str-in-len7.ensures.value ∙ n_spelt in
-    let x : decimal c.in_ok-c-in-len7.c ≡ decimal f.c = sym c.in_ok-c-in-len7.ensures.found.1 ∙ c.as_str-in-len7-6.ensures.value ∙ c_spelt in
+    let x : decimal c.in_ok-c-in-len7.c ≡ decimal f.c = sym c.in_ok-c-in-len7.ensures.found.1 ∙ c.as_str-in-len7-6.ensures.value
+    ∙ c_spelt in
     let same_n : c.in_ok-n-in-len7.n ≡ f.n =
     decimal_injective _ _ (omega (arith, c.in_ok-n-in-len7.ensures.found.0)) (omega (arith, is.within.n)) n in
     let same_c : c.in_ok-c-in-len7.c ≡ f.c =
@@ -65,7 +66,8 @@ pub returns-else-not-is_address-clause-found : goal.returns-else-not-is_address-
 returns-else-not-is_address-clause-found c =
     let name : string_bytes c.name-item.result ≡ codes "flip" =
     let same : c.as_str.result.now ≡ codes "flip" = search rules in sym c.as_str.ensures.value ∙ same in
-    let texts = seven c.args.words.now c.name-item.result c.n-item.result c.b-item.result c.d-item.result c.m-item.result c.width-item.result
+    let texts = seven c.args.words.now c.name-item.result c.n-item.result c.b-item.result c.d-item.result c.m-item.result
+    c.width-item.result
     c.c-item.result (record {
       length = omega (arith, c.in-len7.len_at_least, c.in-len7.len_below);
       at0 = c.name-item.is;
