@@ -2,6 +2,7 @@
 //!
 //! A program hands in its runtime and streams: `exit_status(&run(&rt, rt.stdin(), rt.stdout(),
 //! rt.stderr()))`.
+
 #![tactic(auto)]
 
 mod program;
@@ -10,3 +11,4 @@ mod streams;
 
 pub use program::{exit_status, run};
 pub use start_error::StartError;
+pub use streams::Stream;

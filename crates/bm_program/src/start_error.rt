@@ -1,4 +1,5 @@
 //! What ends the program before the call.
+
 ghost use Rattle.std.specs.Prelude.{◌≡◌, ◌≢◌};
 ghost use Rattle.std.specs.IoError.{error_kind};
 
@@ -9,7 +10,7 @@ use std::io::ErrorKind;
 /// Why the program ends before it makes the call.
 #[derive(Clone, Copy, Debug, PartialEq, Eq)]
 pub enum StartError {
-    /// Memory for the words was refused.
+    /// Memory for the words or for the rack was refused.
     OutOfMemory,
     /// A standard stream is closed, or a word is no text.
     Unavailable,

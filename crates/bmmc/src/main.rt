@@ -1,4 +1,5 @@
 //! The program: it hands its words and streams on, and ends with the status.
+
 #![tactic(auto)]
 
 use bm_program::{exit_status, run};

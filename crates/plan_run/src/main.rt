@@ -1,4 +1,5 @@
 //! The program again, whose stored run is the command `plan`.
+
 #![tactic(auto)]
 
 use bm_program::{exit_status, run};
