@@ -3,6 +3,7 @@
 //!
 //! With no words it moves a little, and prints a checksum for each move. With the word `measure`
 //! it moves 16 and 64 MiB, and adds the nanoseconds of processor time.
+
 #![tactic(auto)]
 
 mod checksum;
@@ -11,6 +12,7 @@ mod map_name;
 mod passed;
 mod pattern;
 mod placed;
+mod plan_maps;
 mod random_map;
 mod sizes;
 mod stopwatch;
@@ -49,6 +51,25 @@ fn place_all(rt: &HostRuntime, sizes: Sizes) -> io::Result<()> {
     place_widths(rt, sizes, MapName::Random)
 }
 
+// Places loads of records of 1, 4 and 8 bytes, at once and in two steps, by a map of a plan's pass.
+fn place_plan(rt: &HostRuntime, sizes: Sizes, name: MapName) -> io::Result<()> {
+    for width_bits in [0, 2, 3] {
+        place(rt, sizes, name, width_bits)?;
+    }
+    for width_bits in [0, 2, 3] {
+        place_in_two(rt, sizes, name, width_bits)?;
+    }
+    Ok(())
+}
+
+// Places loads by the maps that the passes of plans have.
+fn place_plans(rt: &HostRuntime, sizes: Sizes) -> io::Result<()> {
+    place_plan(rt, sizes, MapName::LeadingIdentity)?;
+    place_plan(rt, sizes, MapName::Streams32)?;
+    place_plan(rt, sizes, MapName::Streams256)?;
+    place_plan(rt, sizes, MapName::Morton)
+}
+
 // Transforms loads at the places of three maps.
 fn transform_all(rt: &HostRuntime, sizes: Sizes) -> io::Result<()> {
     transform(rt, sizes, MapName::Identity)?;
@@ -62,8 +83,9 @@ fn pass_widths(rt: &HostRuntime, sizes: Sizes, name: MapName) -> io::Result<()> 
     pass(rt, sizes, name, 6)
 }
 
-// Does passes by each map that moves records.
+// Does passes by five maps.
 fn pass_all(rt: &HostRuntime, sizes: Sizes) -> io::Result<()> {
+    pass_widths(rt, sizes, MapName::Identity)?;
     pass_widths(rt, sizes, MapName::Gray)?;
     pass_widths(rt, sizes, MapName::Transpose)?;
     pass_widths(rt, sizes, MapName::BitReversal)?;
@@ -78,6 +100,7 @@ fn check(rt: &HostRuntime) -> io::Result<()> {
         row_bits: 12,
     };
     place_all(rt, sizes)?;
+    place_plans(rt, sizes)?;
     transform_all(rt, sizes)?;
     pass_all(rt, sizes)
 }
@@ -95,14 +118,17 @@ fn measured(load_bits: u8, row_bits: u8) -> Sizes
     }
 }
 
-// The moves of loads of 16 and 64 MiB in rows of 64 and 256 KiB.
+// The moves of loads of 16 MiB and of 64 MiB in rows of 256 KiB.
 fn measure(rt: &HostRuntime) -> io::Result<()> {
-    place_all(rt, measured(24, 16))?;
-    place_all(rt, measured(24, 18))?;
-    place_all(rt, measured(26, 16))?;
-    place_all(rt, measured(26, 18))?;
-    transform_all(rt, measured(26, 18))?;
-    pass_all(rt, measured(24, 18))
+    let small = measured(24, 18);
+    let large = measured(26, 18);
+    place_all(rt, small)?;
+    place_plans(rt, small)?;
+    place_all(rt, large)?;
+    place_plans(rt, large)?;
+    transform_all(rt, small)?;
+    transform_all(rt, large)?;
+    pass_all(rt, small)
 }
 
 fn main(rt: HostRuntime) -> io::Result<()> {

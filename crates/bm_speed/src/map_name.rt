@@ -3,6 +3,7 @@
 ghost use Rattle.std.specs.Prelude.{◌≡◌, ◌^◌, ◌<◌, ◌≤◌};
 ghost use Rattle.bm_gf2.specs.Matrix.{IsNonsingular};
 
+use crate::plan_maps::{leading_identity, morton, streams};
 use crate::random_map::random;
 use bm_gf2::Affine;
 use bm_named::{bit_reversal, gray, identity, transpose};
@@ -18,6 +19,13 @@ pub enum MapName {
     BitReversal,
     /// Of mixed numbers.
     Random,
+    /// With the low half of the bits kept.
+    LeadingIdentity,
+    /// Of 32 columns.
+    Streams32,
+    /// Of 256 columns.
+    Streams256,
+    Morton,
 }
 
 impl MapName {
@@ -34,6 +42,10 @@ impl MapName {
             MapName::Transpose => transpose(n, n / 2),
             MapName::BitReversal => bit_reversal(n),
             MapName::Random => random(n),
+            MapName::LeadingIdentity => leading_identity(n),
+            MapName::Streams32 => streams(n, 5),
+            MapName::Streams256 => streams(n, 8),
+            MapName::Morton => morton(n),
         }
     }
 }
@@ -46,6 +58,10 @@ impl fmt::Display for MapName {
             MapName::Transpose => "transpose",
             MapName::BitReversal => "bit-reversal",
             MapName::Random => "random",
+            MapName::LeadingIdentity => "leading-identity",
+            MapName::Streams32 => "32-streams",
+            MapName::Streams256 => "256-streams",
+            MapName::Morton => "morton",
         })
     }
 }
