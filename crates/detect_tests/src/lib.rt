@@ -1,4 +1,5 @@
 //! Worked rows of detection.
+
 #![tactic(auto)]
 
 #[cfg(test)]

@@ -1,4 +1,5 @@
 //! Lists of four addresses, in two loads of two.
+
 ghost use Rattle.std.specs.Prelude.{◌≡◌, IsTrue, Some};
 ghost use Rattle.bm_base.specs.Shape.{dims_of};
 

@@ -1,4 +1,5 @@
 //! Worked rows of the transform's plan.
+
 #![tactic(auto)]
 
 #[cfg(test)]

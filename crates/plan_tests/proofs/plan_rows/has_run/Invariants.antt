@@ -1,0 +1,10 @@
+use Rattle.std.proofs.Common.{◌≡◌, Some}
+use Rattle.bm_base.specs.Shape.{dims_of}
+use Rattle.bm_bufs.specs.Bufs.{FitsShape}
+use Rattle.plan_tests.proofs.plan_rows.has_run.Given as goal
+
+abbrev pub invariant-loop-i : goal.invariant-loop-i
+invariant-loop-i g l = record {
+  attached : (g.R.Rack.view l.rack).attached ≡ Some (dims_of l.shape);
+  fits : FitsShape l.shape l.bufs;
+}

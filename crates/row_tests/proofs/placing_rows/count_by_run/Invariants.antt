@@ -1,5 +1,0 @@
-use Rattle.bm_bufs.specs.Bufs.{FitsShape}
-use Rattle.row_tests.proofs.placing_rows.count_by_run.Given as goal
-
-abbrev pub invariant-loop-map : goal.invariant-loop-map
-invariant-loop-map l = FitsShape l.shape l.bufs

@@ -1,0 +1,11 @@
+//! What the tests of control files and of runs share: control files made call by call, runs of sixteen records.
+
+#![tactic(auto)]
+
+mod recorder;
+mod runs;
+mod slates;
+
+pub use recorder::{Call, Recorder};
+pub use runs::{INPUT, REVERSED, has_loaded, holds, ran, report};
+pub use slates::{Said, Step, has_made, have_made, is_job};

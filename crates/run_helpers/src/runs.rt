@@ -1,0 +1,90 @@
+//! Runs of permutations of sixteen records of one byte.
+
+ghost use Rattle.std.specs.Prelude.{◌≡◌, IsTrue, Some};
+ghost use Rattle.bm_base.specs.Shape.{dims_of};
+
+use crate::slates::is_job;
+use bm_base::{Area, RunReport, Shape};
+use bm_bufs::Bufs;
+use bm_control::open_load;
+use bm_factor::factor;
+use bm_forms::Job;
+use bm_gf2::Affine;
+use bm_job::{RunError, run_job};
+use bm_rack::Rack;
+use std::alloc::Global;
+use test_helpers::{areas_of, has_disks, read_area, write_area};
+
+/// The bytes 0 to 15.
+pub const INPUT: [u8; 16] = [0, 1, 2, 3, 4, 5, 6, 7, 8, 9, 10, 11, 12, 13, 14, 15];
+
+/// The same with the bits of each address reversed.
+pub const REVERSED: [u8; 16] = [0, 8, 4, 12, 2, 10, 6, 14, 1, 9, 5, 13, 3, 11, 7, 15];
+
+/// Makes the disks of a shape, writes the input, and opens the load gate: on two disks in blocks of
+/// two, eight records in a load, ten device calls.
+pub fn has_loaded<R: Rack>(rack: &mut R, shape: &Shape) -> bool
+    ensures { IsTrue result → (R.view rack.new).attached ≡ Some (dims_of shape.now) }
+{
+    has_disks(rack, shape)
+        && write_area(rack, shape, Area::Input, &INPUT)
+        && open_load(rack, shape).is_ok()
+}
+
+/// What a run of the permutation by the map answers. Nothing where it is no job of the shape, or
+/// memory is refused.
+pub fn ran<R: Rack>(
+    alloc: Global,
+    rack: &mut R,
+    shape: &Shape,
+    map: &Affine,
+    every: u64,
+) -> Option<Result<RunReport, RunError>>
+    requires { (R.view rack.old).attached ≡ Some (dims_of shape.now) }
+    ensures { (R.view rack.new).attached ≡ Some (dims_of shape.now) }
+{
+    if map.a.n != shape.n() {
+        return None;
+    }
+    let Ok(plan) = factor(alloc, shape, map) else {
+        return None;
+    };
+    if !is_job(shape, map, plan.len(), every) {
+        return None;
+    }
+    let mut bufs = Bufs::new(alloc, shape).ok()?;
+    let job = Job::Permute(*map);
+    Some(run_job(rack, shape, &job, &plan, &mut bufs, every))
+}
+
+/// Whether the area after so many passes holds these records, and the input is as before.
+pub fn holds<R: Rack>(
+    alloc: Global,
+    rack: &mut R,
+    shape: &Shape,
+    passes: u16,
+    output: &[u8],
+) -> bool
+    requires { (R.view rack.old).attached ≡ Some (dims_of shape.now) }
+    ensures { (R.view rack.new).attached ≡ Some (dims_of shape.now) }
+{
+    let (last, _) = areas_of(passes);
+    match (
+        read_area(alloc, rack, shape, last),
+        read_area(alloc, rack, shape, Area::Input),
+    ) {
+        (Some(found), Some(input)) => found.as_slice() == output
+            && input.as_slice() == INPUT.as_slice(),
+        _ => false,
+    }
+}
+
+/// A report.
+pub fn report(passes: u16, done_before: u16, part_before: u64, moves: u64) -> RunReport {
+    RunReport {
+        passes,
+        done_before,
+        part_before,
+        moves,
+    }
+}
