@@ -1,0 +1,12 @@
+//! Worked runs of jobs over devices in memory, with a stop at each device call.
+
+#![tactic(auto)]
+
+#[cfg(test)]
+mod device_order;
+#[cfg(test)]
+mod run_rows;
+#[cfg(test)]
+mod run_stops;
+#[cfg(test)]
+mod run_transform;
