@@ -1,0 +1,20 @@
+//! Worked commands over devices in memory.
+
+#![tactic(auto)]
+
+#[cfg(test)]
+mod calling;
+#[cfg(test)]
+mod carry_rows;
+#[cfg(test)]
+mod fault_rows;
+#[cfg(test)]
+mod flip_rows;
+#[cfg(test)]
+mod job_rows;
+#[cfg(test)]
+mod large_rows;
+#[cfg(test)]
+mod session_rows;
+#[cfg(test)]
+mod texts;
