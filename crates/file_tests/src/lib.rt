@@ -1,7 +1,12 @@
-//! Tests of the devices over real files. Each starts in an empty folder of its own.
+//! Tests of the devices over real files. Each makes itself an empty folder first.
+
 #![tactic(auto)]
 
 #[cfg(test)]
-mod job_files;
+mod folders;
 #[cfg(test)]
-mod tests;
+mod racks;
+#[cfg(test)]
+mod streams;
+#[cfg(test)]
+mod watched_racks;

@@ -3,12 +3,14 @@
 use bm_filerack::FileSource;
 use bm_memrack::{MemSink, SureRack, SureSource};
 use bm_top::{Status, bmmc_top};
+use file_helpers::enter_empty_folder;
 use std::fs;
 use std::test::Fail;
 
 /// The plan of a job file, and of one that is not there.
 #[test]
 fn a_job_file_is_planned(rt: HostRuntime) -> Result<(), Fail> {
+    enter_empty_folder(&rt, "a_job_file_is_planned")?;
     fs::write(
         &rt,
         "job.toml",

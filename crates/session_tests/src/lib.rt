@@ -1,0 +1,18 @@
+//! Commands over real files. Each test makes itself an empty folder first.
+
+#![tactic(auto)]
+
+#[cfg(test)]
+mod calling;
+#[cfg(test)]
+mod damaged_files;
+#[cfg(test)]
+mod job_files;
+#[cfg(test)]
+mod large_carry;
+#[cfg(test)]
+mod program;
+#[cfg(test)]
+mod standard_streams;
+#[cfg(test)]
+mod stopped_runs;
