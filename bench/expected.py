@@ -10,6 +10,7 @@ by record, and has no code in common with the programs that move records.
 LOAD_BYTES = 1 << 16
 ROW_BYTES = 1 << 12
 WIDTHS = (1, 4, 8, 16, 64)
+PLAN_WIDTHS = (1, 4, 8)
 
 
 def pattern():
@@ -66,6 +67,25 @@ def transposed(x, bits):
     return column << rows | row
 
 
+def reversed_above(x, bits):
+    """The lower half of the bits, rounded down, stays, and the others are reversed."""
+    low = bits // 2
+    return reversed_bits(x >> low, bits - low) << low | x % 2**low
+
+
+def split_columns(x, bits, count):
+    """Column j of each row of 2^count records goes to piece j of the load."""
+    column, row = x % 2**count, x >> count
+    return column << (bits - count) | row
+
+
+def interleaved(x, bits):
+    """Bit i of the column becomes bit 2i, and bit i of the row bit 2i + 1."""
+    columns = bits - bits // 2
+    column, row = x % 2**columns, x >> columns
+    return sum((column >> i & 1) << 2 * i | (row >> i & 1) << 2 * i + 1 for i in range(columns))
+
+
 def places(name, bits):
     """The place of each number by the map of this name."""
     numbers = range(1 << bits)
@@ -77,6 +97,10 @@ def places(name, bits):
         "gray": lambda x: x ^ x >> 1,
         "transpose": lambda x: transposed(x, bits),
         "bit-reversal": lambda x: reversed_bits(x, bits),
+        "leading-identity": lambda x: reversed_above(x, bits),
+        "32-streams": lambda x: split_columns(x, bits, 5),
+        "256-streams": lambda x: split_columns(x, bits, 8),
+        "morton": lambda x: interleaved(x, bits),
     }[name]
     return [one(x) for x in numbers]
 
@@ -111,17 +135,22 @@ def print_line(act, name, width, data):
     print(f"{act} {name} {width} {sizes} {checksum(data):016x}")
 
 
+def print_placings(data, names, widths):
+    for name in names:
+        placed = {width: moved(data, name, width) for width in widths}
+        for act in ("stepped", "two-step"):
+            for width in widths:
+                print_line(act, name, width, placed[width])
+
+
 def main():
     data = pattern()
     print_line("copy", "identity", 1, data)
-    for name in ("identity", "gray", "transpose", "bit-reversal", "random"):
-        placed = {width: moved(data, name, width) for width in WIDTHS}
-        for act in ("stepped", "two-step"):
-            for width in WIDTHS:
-                print_line(act, name, width, placed[width])
+    print_placings(data, ("identity", "gray", "transpose", "bit-reversal", "random"), WIDTHS)
+    print_placings(data, ("leading-identity", "32-streams", "256-streams", "morton"), PLAN_WIDTHS)
     for name in ("identity", "gray", "bit-reversal"):
         print_line("butterflies", name, 8, transformed(data, name))
-    for name in ("gray", "transpose", "bit-reversal", "random"):
+    for name in ("identity", "gray", "transpose", "bit-reversal", "random"):
         for width in (8, 64):
             print_line("pass", name, width, moved(data, name, width))
 

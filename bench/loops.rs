@@ -67,6 +67,12 @@ fn columns_of(map: &str, n: usize) -> Vec<u64> {
         "identity" => 1 << j,
         "gray" => (1 << j) ^ ((1 << j) >> 1),
         "transpose" => 1 << ((j + n / 2) % n),
+        "leading-identity" if j < n / 2 => 1 << j,
+        "leading-identity" => 1 << (n - 1 - (j - n / 2)),
+        "32-streams" => 1 << ((j + n - 5) % n),
+        "256-streams" => 1 << ((j + n - 8) % n),
+        "morton" if j < n - n / 2 => 1 << (2 * j),
+        "morton" => 1 << (2 * (j - (n - n / 2)) + 1),
         _ => 1 << (n - 1 - j),
     };
     (0..n).map(column).collect()
@@ -478,6 +484,30 @@ fn transform_by_twos(load: &mut [u8], columns: &[u64]) {
     }
 }
 
+/// The bits of a number in a block of 512 KiB.
+const BLOCK_BITS: usize = 16;
+
+/// The transform two levels at a time, where the low bits that keep their places go block by block.
+fn transform_by_blocks(load: &mut [u8], columns: &[u64]) {
+    let kept = columns.iter().enumerate().take_while(|(j, column)| **column == 1 << j);
+    let bits = kept.count().min(BLOCK_BITS) / 2 * 2;
+    if !columns.iter().all(|column| column.is_power_of_two()) || bits == 0 {
+        return transform_by_twos(load, columns);
+    }
+    for block in load.chunks_exact_mut(8 << bits) {
+        for i in (0..bits).step_by(2) {
+            two_levels(block, 8 << i);
+        }
+    }
+    let last = columns.len() / 2 * 2;
+    for i in (bits..last).step_by(2) {
+        two_levels(load, 8 * columns[i].min(columns[i + 1]) as usize);
+    }
+    if last < columns.len() {
+        level(load, 8 * columns[last] as usize);
+    }
+}
+
 // The bytes that are moved, and the lines.
 
 fn fill(bytes: &mut [u8], first: u64) {
@@ -636,6 +666,9 @@ fn transform(sizes: Sizes, map: &str, act: &str, levels: impl FnOnce(&mut [u8], 
 
 const MAPS: [&str; 5] = ["identity", "gray", "transpose", "bit-reversal", "random"];
 
+/// The placings that the passes of plans have.
+const PLAN_MAPS: [&str; 4] = ["leading-identity", "32-streams", "256-streams", "morton"];
+
 fn place_all(sizes: Sizes) {
     copy(sizes);
     for map in MAPS {
@@ -652,17 +685,29 @@ fn place_all(sizes: Sizes) {
     }
 }
 
+fn place_plans(sizes: Sizes) {
+    for map in PLAN_MAPS {
+        place::<1>(sizes, map);
+        place::<4>(sizes, map);
+        place::<8>(sizes, map);
+        place_in_two::<1>(sizes, map);
+        place_in_two::<4>(sizes, map);
+        place_in_two::<8>(sizes, map);
+    }
+}
+
 fn transform_all(sizes: Sizes) {
     for map in ["identity", "gray", "bit-reversal"] {
-        transform(sizes, map, "butterflies", transform_by_twos);
+        transform(sizes, map, "butterflies", transform_by_blocks);
         if sizes.measured {
+            transform(sizes, map, "by-twos", transform_by_twos);
             transform(sizes, map, "by-ones", transform_by_ones);
         }
     }
 }
 
 fn pass_all(sizes: Sizes) {
-    for map in ["gray", "transpose", "bit-reversal", "random"] {
+    for map in MAPS {
         pass_in_two::<8>(sizes, map);
         pass_in_two::<64>(sizes, map);
         if sizes.measured {
@@ -682,13 +727,16 @@ fn main() {
         row: 1 << row_bits,
     };
     if measured {
-        for (load_bits, row_bits) in [(24, 16), (24, 18), (26, 16), (26, 18)] {
-            place_all(sizes(load_bits, row_bits));
+        for load_bits in [24, 26] {
+            place_all(sizes(load_bits, 18));
+            place_plans(sizes(load_bits, 18));
         }
+        transform_all(sizes(24, 18));
         transform_all(sizes(26, 18));
         pass_all(sizes(24, 18));
     } else {
         place_all(sizes(16, 12));
+        place_plans(sizes(16, 12));
         transform_all(sizes(16, 12));
         pass_all(sizes(16, 12));
     }

@@ -3,11 +3,13 @@
 
     python3 bench/speed.py [ROUNDS]
 
-builds crates/bm_speed by `rt run` and bench/loops.rs by `rustc -O`, runs both in turn so many
-times (5 where no number is given), and prints the least processor time of each move as tables.
-It ends with status 1 where the two programs do not print the same checksums.
+builds crates/bm_speed by `rt run` and bench/loops.rs by `rustc -O`, and runs both in turn so many
+times (3 where no number is given). The least processor time of each move goes as tables to
+bench/results/speed.md, and a dozen rows of them are printed for docs/PERFORMANCE.md. It ends with
+status 1 where the two programs do not print the same checksums.
 """
 
+import contextlib
 import os
 import subprocess
 import sys
@@ -15,12 +17,40 @@ import sys
 TOP = os.path.dirname(os.path.dirname(os.path.abspath(__file__)))
 OURS = os.path.join(TOP, "crates", "bm_speed", "out", "bm_speed")
 LOOPS = os.path.join(TOP, "bench", "out", "loops")
+RESULTS = os.path.join(TOP, "bench", "results", "speed.md")
 
 # Each buffer gets fresh memory in both programs: memory that was used before is faster.
 MEMORY = {"MALLOC_MMAP_THRESHOLD_": "1048576"}
 
 # The forms of Rust that bm_speed has not, and the moves of bm_speed that move the same bytes.
-OTHER_FORMS = {"by-ones": "butterflies", "pass-stepped": "pass"}
+OTHER_FORMS = {"by-twos": "butterflies", "by-ones": "butterflies", "pass-stepped": "pass"}
+
+# The forms of Rust beside each move of bm_speed.
+RUST_FORMS = {
+    "copy": ("copy",),
+    "two-step": ("stepped", "two-step"),
+    "butterflies": ("butterflies", "by-twos", "by-ones"),
+    "pass": ("pass", "pass-stepped"),
+}
+
+# The rows of docs/PERFORMANCE.md: moves, and the MiB of a load.
+ROWS = [
+    ("copy", "identity", 1, 64),
+    ("two-step", "identity", 16, 64),
+    ("two-step", "gray", 1, 64),
+    ("two-step", "bit-reversal", 8, 64),
+    ("two-step", "random", 8, 64),
+    ("two-step", "leading-identity", 8, 64),
+    ("two-step", "32-streams", 1, 64),
+    ("two-step", "32-streams", 8, 64),
+    ("two-step", "256-streams", 4, 64),
+    ("two-step", "256-streams", 8, 64),
+    ("two-step", "morton", 8, 64),
+    ("butterflies", "identity", 8, 16),
+    ("butterflies", "identity", 8, 64),
+    ("pass", "identity", 64, 16),
+    ("pass", "bit-reversal", 8, 16),
+]
 
 
 def build():
@@ -113,25 +143,47 @@ def print_placings(best):
         print_table(columns.split(","), placing_rows(best, load, row))
 
 
-def other_rows(best, act, rust_other):
-    """The moves of an act, with two forms in Rust."""
+def other_rows(best, act):
+    """The moves of an act, beside its forms in Rust."""
     for move, ours in best[OURS].items():
         if move[0] == act:
             _, name, width, load, _ = move
-            theirs, other = best[LOOPS][move], best[LOOPS][rust_other, *move[1:]]
-            times = (ours, theirs, other)
-            speeds = [speed(load, time) for time in times]
-            yield [name, str(width), *speeds, part(min(theirs, other), ours)]
+            others = [best[LOOPS][form, *move[1:]] for form in RUST_FORMS[act]]
+            speeds = [speed(load, time) for time in (ours, *others)]
+            yield [name, str(width), str(load >> 10), *speeds, part(min(others), ours)]
+
+
+def print_results(best):
+    """All tables."""
+    print("# Placing, butterflies and passes in memory")
+    print()
+    print("Written by `python3 bench/speed.py`. MB/s are millions of bytes of records a second.")
+    print_placings(best)
+    columns = "map,width,MiB,butterflies,Rust by blocks,Rust by two bits,Rust by one bit,part of Rust's"
+    print_table(columns.split(","), other_rows(best, "butterflies"))
+    columns = "map,width,MiB,pass,Rust in two steps,Rust stepped,part of Rust's"
+    print_table(columns.split(","), other_rows(best, "pass"))
+
+
+def chosen_rows(best):
+    """The rows of docs/PERFORMANCE.md."""
+    for act, name, width, mib in ROWS:
+        for move, ours in best[OURS].items():
+            if move[:4] == (act, name, width, mib << 10):
+                others = min(best[LOOPS][form, *move[1:]] for form in RUST_FORMS[act])
+                load = mib << 10
+                parts = (speed(load, ours), speed(load, others), part(others, ours))
+                yield [act, name, str(width), str(mib), *parts]
 
 
 def main():
     build()
-    best = least_times(int(sys.argv[1]) if len(sys.argv) > 1 else 5)
-    print_placings(best)
-    columns = "map,width,butterflies,Rust by two bits,Rust by one bit,part of Rust's"
-    print_table(columns.split(","), other_rows(best, "butterflies", "by-ones"))
-    columns = "map,width,pass,Rust in two steps,Rust stepped,part of Rust's"
-    print_table(columns.split(","), other_rows(best, "pass", "pass-stepped"))
+    best = least_times(int(sys.argv[1]) if len(sys.argv) > 1 else 3)
+    os.makedirs(os.path.dirname(RESULTS), exist_ok=True)
+    with open(RESULTS, "w", encoding="utf-8") as results:
+        with contextlib.redirect_stdout(results):
+            print_results(best)
+    print_table("move,map,width,MiB,MB/s,Rust,part".split(","), chosen_rows(best))
 
 
 if __name__ == "__main__":
