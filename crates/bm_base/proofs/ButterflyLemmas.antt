@@ -1,5 +1,6 @@
 -- Numbers in records, and butterflies.
-use Rattle.std.proofs.Common.{ℕ, zero, suc, ◌≡◌, ◌+◌, ◌-◌, ◌*◌, ◌/◌, ◌%◌, ◌^◌, ◌<◌, ◌≤◌, List, [], ◌∷◌, refl, sym, ap, ◌∙◌, subst, arith, ⊎_elim}
+use Rattle.std.proofs.Common.{ℕ, zero, suc, ◌≡◌, ◌+◌, ◌-◌, ◌*◌, ◌/◌, ◌%◌, ◌^◌, ◌<◌, ◌≤◌, List, [], ◌∷◌, refl, sym, ap, ◌∙◌, subst, arith}
+use Rattle.std.proofs.Common.{⊎_elim}
 use Rattle.std.proofs.lemmas.Bool.{cases_lt, cases_eq}
 use Rattle.std.proofs.lemmas.Nat.{pow_pos, shr_split, mod-pow-add, pow-add}
 use Rattle.std.proofs.lemmas.List.{append-nil}
@@ -62,10 +63,12 @@ number_in-record_of v = ap number_in (sym (record_of-cut v)) ∙ read_back (v % 
 -- ---- one butterfly
 
 pub set_bit : (k r : ℕ) → bit_at k r ≡ 0 → bit_at (k + 2 ^ r) r ≡ 1
-set_bit k r h = ap (λ (c : ℕ). c % 2) (add-div_right k (pow_pos r)) ∙ (let z : k / 2 ^ r % 2 ≡ 0 = h in let e : (k / 2 ^ r + 1) % 2 ≡ 1 = omega arith in e)
+set_bit k r h = ap (λ (c : ℕ). c % 2) (add-div_right k (pow_pos r))
+    ∙ (let z : k / 2 ^ r % 2 ≡ 0 = h in let e : (k / 2 ^ r + 1) % 2 ≡ 1 = omega arith in e)
 
 -- at the address without the bit
-pub butterfly-clear : (i : ℕ) (xs : ℕ → List ℕ) (x : ℕ) → bit_at x i ≡ 0 → butterfly i xs x ≡ record_of (number_in (xs x) + number_in (xs (x + 2 ^ i)))
+pub butterfly-clear : (i : ℕ) (xs : ℕ → List ℕ) (x : ℕ) → bit_at x i ≡ 0
+    → butterfly i xs x ≡ record_of (number_in (xs x) + number_in (xs (x + 2 ^ i)))
 unfolding butterfly
 butterfly-clear i xs x h = if_same (bit_at x i) 0 _ _ h
 
@@ -75,7 +78,8 @@ pub butterfly-set : (i : ℕ) (xs : ℕ → List ℕ) (x : ℕ) → bit_at x i �
 unfolding butterfly
 butterfly-set i xs x h =
     if_other (bit_at (x + 2 ^ i) i) 0 _ _ (λ e. let s = set_bit x i h in absurd (omega arith))
-    ∙ ap (λ (c : ℕ). record_of (number_in (xs c) + negative (number_in (xs (x + 2 ^ i))))) (let e : x + 2 ^ i - 2 ^ i ≡ x = omega arith in e)
+    ∙ ap (λ (c : ℕ). record_of (number_in (xs c) + negative (number_in (xs (x + 2 ^ i)))))
+    (let e : x + 2 ^ i - 2 ^ i ≡ x = omega arith in e)
 
 -- an address with the bit is one without it and the bit
 pub without_bit : (k r : ℕ) → bit_at k r ≡ 1 → (2 ^ r ≤ k) × (bit_at (k - 2 ^ r) r ≡ 0)
@@ -98,12 +102,15 @@ set_below k r n h l z =
     let q : k / 2 ^ (r + 1) < 2 ^ j = shr_lt j (r + 1) (subst (λ (c : ℕ). k < 2 ^ c) (sym e) h) in
     let room : (k / 2 ^ (r + 1) + 1) * 2 ^ (r + 1) ≤ 2 ^ j * 2 ^ (r + 1) = mul-le-mul_right (2 ^ (r + 1)) (omega arith) in
     let all : 2 ^ j * 2 ^ (r + 1) ≡ 2 ^ n = sym (pow-add 2 j (r + 1)) ∙ ap (λ (c : ℕ). 2 ^ c) e in
-    let more : (k / 2 ^ (r + 1) + 1) * 2 ^ (r + 1) ≡ k / 2 ^ (r + 1) * 2 ^ (r + 1) + 2 ^ (r + 1) = add-mul (k / 2 ^ (r + 1)) 1 (2 ^ (r + 1)) ∙ (let e : k / 2 ^ (r + 1) * 2 ^ (r + 1) + 1 * 2 ^ (r + 1) ≡ k / 2 ^ (r + 1) * 2 ^ (r + 1) + 2 ^ (r + 1) = omega arith in e) in
+    let more : (k / 2 ^ (r + 1) + 1) * 2 ^ (r + 1) ≡ k / 2 ^ (r + 1) * 2 ^ (r + 1) + 2 ^ (r + 1) = add-mul (k / 2 ^ (r + 1)) 1 (2 ^ (r + 1))
+    ∙ (let e : k / 2 ^ (r + 1) * 2 ^ (r + 1) + 1 * 2 ^ (r + 1) ≡ k / 2 ^ (r + 1) * 2 ^ (r + 1) + 2 ^ (r + 1) = omega arith in e) in
     let s : k / 2 ^ (r + 1) * 2 ^ (r + 1) + k % 2 ^ (r + 1) ≡ k = shr_split k (r + 1) in
-    let w : k % 2 ^ (r + 1) ≡ bit_at k r * 2 ^ r + k % 2 ^ r = ap (λ (c : ℕ). k % 2 ^ c) (let e : r + 1 ≡ 1 + r = omega arith in e) ∙ mod-pow-add k 1 r in
+    let w : k % 2 ^ (r + 1) ≡ bit_at k r * 2 ^ r + k % 2 ^ r = ap (λ (c : ℕ). k % 2 ^ c) (let e : r + 1 ≡ 1 + r = omega arith in e)
+    ∙ mod-pow-add k 1 r in
     let w0 : bit_at k r * 2 ^ r ≡ 0 = ap (λ (c : ℕ). c * 2 ^ r) z ∙ none_times (2 ^ r) in
     let low : k % 2 ^ r < 2 ^ r = mod-lt k (pow_pos r) in
-    let two : 2 ^ (r + 1) ≡ 2 ^ r + 2 ^ r = ap (λ (c : ℕ). 2 ^ c) (let e : r + 1 ≡ suc r = omega arith in e) ∙ pow-suc 2 r ∙ (let e : 2 ^ r * 2 ≡ 2 ^ r + 2 ^ r = omega arith in e) in
+    let two : 2 ^ (r + 1) ≡ 2 ^ r + 2 ^ r = ap (λ (c : ℕ). 2 ^ c) (let e : r + 1 ≡ suc r = omega arith in e) ∙ pow-suc 2 r
+    ∙ (let e : 2 ^ r * 2 ≡ 2 ^ r + 2 ^ r = omega arith in e) in
     omega arith
 
 -- the butterflies within aligned blocks of 2 ^ m see one block alone
@@ -114,7 +121,8 @@ butterfly-block i m a xs ys l h t ht =
     (λ (p : bit_at t i ≡ 0).
     let q : bit_at (a * 2 ^ m + t) i ≡ 0 = bit_at_cat_low a m t i l ∙ p in
     butterfly-clear i xs (a * 2 ^ m + t) q
-    ∙ ap record_of (plus_same (ap number_in (h t ht)) (ap number_in (ap xs (plus_assoc (a * 2 ^ m) t (2 ^ i)) ∙ h (t + 2 ^ i) (set_below t i m ht l p))))
+    ∙ ap record_of (plus_same (ap number_in (h t ht))
+    (ap number_in (ap xs (plus_assoc (a * 2 ^ m) t (2 ^ i)) ∙ h (t + 2 ^ i) (set_below t i m ht l p))))
     ∙ sym (butterfly-clear i ys t p))
     (λ (p : bit_at t i ≡ 0 → ⊥).
     let o : bit_at t i ≡ 1 = (let b : bit_at t i < 2 = bit_at-lt t i in let c : bit_at t i ≡ 0 → ⊥ = p in omega arith) in
@@ -139,7 +147,8 @@ butterflies-block (suc i) m a xs ys l h t ht =
     butterfly-block i m a (butterflies i xs) (butterflies i ys) (omega arith) (butterflies-block i m a xs ys (omega arith) h) t ht
 
 -- the records in the range decide
-pub butterflies-same : (low n : ℕ) (xs ys : ℕ → List ℕ) → low ≤ n → SameRecords (2 ^ n) xs ys → SameRecords (2 ^ n) (butterflies low xs) (butterflies low ys)
+pub butterflies-same : (low n : ℕ) (xs ys : ℕ → List ℕ) → low ≤ n → SameRecords (2 ^ n) xs ys
+    → SameRecords (2 ^ n) (butterflies low xs) (butterflies low ys)
 butterflies-same low n xs ys l h x hx =
     ap (butterflies low xs) (sym (first_block n x))
     ∙ butterflies-block low n 0 xs ys l (λ t ht. ap xs (first_block n t) ∙ h t ht) x hx

@@ -1,5 +1,6 @@
 -- A part of a list after another part was written.
-use Rattle.std.proofs.Common.{inl, inr, ◌≡◌, ◌≢◌, ℕ, ◌+◌, ◌-◌, ◌*◌, ◌<◌, ◌≤◌, List, ◌++◌, length, take, drop, sym, ◌∙◌, ap, subst, arith, length-drop}
+use Rattle.std.proofs.Common.{inl, inr, ◌≡◌, ◌≢◌, ℕ, ◌+◌, ◌-◌, ◌*◌, ◌<◌, ◌≤◌, List, ◌++◌, length, take, drop, sym, ◌∙◌, ap, subst, arith}
+use Rattle.std.proofs.Common.{length-drop}
 use Rattle.std.proofs.lemmas.List.{take-append-le, drop-append-le, take-take, drop-take, drop-drop, drop_at, length-take-le, take_all}
 use Rattle.std.proofs.lemmas.Bool.{cases_lt}
 use Rattle.std.proofs.Math.Nat.{mul-le-mul_right}
@@ -22,7 +23,8 @@ chunk_before w n a k xs ys h l =
     ∙ take-take w (a - n) (drop n xs) (omega arith)
 
 -- within the part
-pub chunk_within : (w j a k : ℕ) (xs ys : List ℕ) → j + w ≤ length ys → a ≤ length xs → take w (drop (a + j) (put_mid a k xs ys)) ≡ take w (drop j ys)
+pub chunk_within : (w j a k : ℕ) (xs ys : List ℕ) → j + w ≤ length ys → a ≤ length xs
+    → take w (drop (a + j) (put_mid a k xs ys)) ≡ take w (drop j ys)
 chunk_within w j a k xs ys h l =
     let rest = ys ++ post_of a k xs in
     let front : length (take a xs) ≡ a = length-take-le a xs l in
@@ -38,13 +40,15 @@ pub chunk_of_part : (w j n a : ℕ) (xs : List ℕ) → j + w ≤ n → take w (
 chunk_of_part w j n a xs h =
     let same : j + (n - j) ≡ n = omega arith in
     let e : drop j (take (j + (n - j)) (drop a xs)) ≡ take (n - j) (drop j (drop a xs)) = drop-take j (n - j) (drop a xs) in
-    let e' : drop j (take n (drop a xs)) ≡ take (n - j) (drop j (drop a xs)) = subst (λ (x : ℕ). drop j (take x (drop a xs)) ≡ take (n - j) (drop j (drop a xs))) same e in
+    let e' : drop j (take n (drop a xs)) ≡ take (n - j) (drop j (drop a xs)) = subst
+    (λ (x : ℕ). drop j (take x (drop a xs)) ≡ take (n - j) (drop j (drop a xs))) same e in
     ap (λ (x : List ℕ). take w x) e'
     ∙ take-take w (n - j) (drop j (drop a xs)) (omega arith)
     ∙ ap (λ (x : List ℕ). take w x) (drop-drop j a xs)
 
 -- block number i after the first bytes of block number j were written
-pub chunk_other : (w i j n k : ℕ) (xs ys : List ℕ) → i ≢ j → (j + 1) * w ≤ length xs → n ≤ w → k ≡ n → length ys ≡ n → take w (drop (i * w) (put_mid (j * w) k xs ys)) ≡ take w (drop (i * w) xs)
+pub chunk_other : (w i j n k : ℕ) (xs ys : List ℕ) → i ≢ j → (j + 1) * w ≤ length xs → n ≤ w → k ≡ n → length ys ≡ n
+    → take w (drop (i * w) (put_mid (j * w) k xs ys)) ≡ take w (drop (i * w) xs)
 chunk_other w i j n k xs ys apart fits short size long = elim (cases_lt i j) [
   | inl below ↦
       let end : (i + 1) * w ≤ j * w = mul-le-mul_right w (omega arith) in

@@ -13,13 +13,22 @@ IsShape-prop n b d m width = hlevel props
 -- shapes of the same numbers are equal
 pub shape_equal : (s t : Shape) → s.n ≡ t.n → s.b ≡ t.b → s.d ≡ t.d → s.m ≡ t.m → s.width ≡ t.width → s ≡ t
 shape_equal s t en eb ed em ew =
-    subst₂ (λ (n b : ℕ). (keeps : IsShape n b t.d t.m t.width) → s ≡ record { n = n; b = b; d = t.d; m = t.m; width = t.width; keeps = keeps })
+    subst₂ (λ (n b : ℕ). (keeps : IsShape n b t.d t.m t.width)
+    → s ≡ record { n = n; b = b; d = t.d; m = t.m; width = t.width; keeps = keeps })
     en eb
-    (subst₂ (λ (d m : ℕ). (keeps : IsShape s.n s.b d m t.width) → s ≡ record { n = s.n; b = s.b; d = d; m = m; width = t.width; keeps = keeps })
+    (subst₂ (λ (d m : ℕ). (keeps : IsShape s.n s.b d m t.width)
+    → s ≡ record { n = s.n; b = s.b; d = d; m = m; width = t.width; keeps = keeps })
     ed em
     (subst (λ (w : ℕ). (keeps : IsShape s.n s.b s.d s.m w) → s ≡ record { n = s.n; b = s.b; d = s.d; m = s.m; width = w; keeps = keeps })
     ew
-    (λ keeps i. record { n = s.n; b = s.b; d = s.d; m = s.m; width = s.width; keeps = IsShape-prop s.n s.b s.d s.m s.width s.keeps keeps i })))
+    (λ keeps i. record {
+      n = s.n;
+      b = s.b;
+      d = s.d;
+      m = s.m;
+      width = s.width;
+      keeps = IsShape-prop s.n s.b s.d s.m s.width s.keeps keeps i;
+    })))
     t.keeps
 
 -- the numbers of a shape break no rule

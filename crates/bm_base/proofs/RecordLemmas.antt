@@ -21,16 +21,20 @@ pub bytes_of-add : (a b : ℕ) (xs : ℕ → List ℕ) → bytes_of (a + b) xs �
 unfolding bytes_of
 bytes_of-add a zero xs = ap (λ (c : ℕ). bytes_of c xs) (let e : a + 0 ≡ a = omega arith in e) ∙ sym (append-nil (bytes_of a xs))
 bytes_of-add a (suc b) xs =
-    rw add-suc (ap (λ (c : List ℕ). c ++ xs (a + b)) (bytes_of-add a b xs) ∙ append_assoc (bytes_of a xs) (bytes_of b (λ t. xs (a + t))) (xs (a + b)))
+    rw add-suc (ap (λ (c : List ℕ). c ++ xs (a + b)) (bytes_of-add a b xs) ∙ append_assoc (bytes_of a xs) (bytes_of b (λ t. xs (a + t)))
+    (xs (a + b)))
 
 -- bytes cut into pieces and put together again
-pub bytes_of-pieces : (count width : ℕ) (bytes : List ℕ) → bytes_of count (λ i. take width (drop (i * width) bytes)) ≡ take (count * width) bytes
+pub bytes_of-pieces : (count width : ℕ) (bytes : List ℕ) → bytes_of count (λ i. take width (drop (i * width) bytes)) ≡ take (count * width)
+    bytes
 unfolding bytes_of
 bytes_of-pieces zero width bytes = ap (λ (c : ℕ). take c bytes) (let e : 0 ≡ 0 * width = omega arith in e)
 bytes_of-pieces (suc i) width bytes =
     ap (λ (c : List ℕ). c ++ take width (drop (i * width) bytes)) (bytes_of-pieces i width bytes)
     ∙ sym (take-add (i * width) width bytes)
-    ∙ ap (λ (c : ℕ). take c bytes) (let e : i * width + 1 * width ≡ (i + 1) * width = sym (add-mul i 1 width) in let f : i * width + width ≡ suc i * width = more i width e in f)
+    ∙ ap (λ (c : ℕ). take c bytes) (let e : i * width + 1 * width ≡ (i + 1) * width = sym (add-mul i 1 width) in let
+    f : i * width + width ≡ suc i * width = more i width e in f)
 
-pub bytes_of-all : (count width : ℕ) (bytes : List ℕ) → length bytes ≡ count * width → bytes_of count (λ i. take width (drop (i * width) bytes)) ≡ bytes
+pub bytes_of-all : (count width : ℕ) (bytes : List ℕ) → length bytes ≡ count * width
+    → bytes_of count (λ i. take width (drop (i * width) bytes)) ≡ bytes
 bytes_of-all count width bytes h = bytes_of-pieces count width bytes ∙ take_all (count * width) bytes (omega arith)

@@ -1,5 +1,6 @@
 -- Records of runs that move as a whole.
-use Rattle.std.proofs.Common.{◌≡◌, ℕ, zero, suc, refl, ◌+◌, ◌-◌, ◌*◌, ◌/◌, ◌%◌, ◌^◌, ◌<◌, ◌≤◌, ◌⊎◌, inl, inr, ⊎_elim, List, bit_xor, take, drop, sym, ap, ◌∙◌, subst, arith}
+use Rattle.std.proofs.Common.{◌≡◌, ℕ, zero, suc, refl, ◌+◌, ◌-◌, ◌*◌, ◌/◌, ◌%◌, ◌^◌, ◌<◌, ◌≤◌, ◌⊎◌, inl, inr, ⊎_elim, List, bit_xor, take}
+use Rattle.std.proofs.Common.{drop, sym, ap, ◌∙◌, subst, arith}
 use Rattle.std.specs.Fork.{slice_chunk}
 use Rattle.std.specs.Int.{bit_at}
 use Rattle.std.specs.Int.Bits.{xor_shifted, xor_mod, xor_shr, xor_assoc, xor_self, xor_zero_l}
@@ -12,7 +13,8 @@ use Rattle.bm_base.proofs.ChunkLemmas.{chunk_of_part}
 use Rattle.bm_gf2.specs.declared.matrix.Matrix.{Matrix}
 use Rattle.bm_gf2.specs.Matrix.{column, image, IsNonsingular}
 use Rattle.bm_gf2.specs.Vector.{xor_sum}
-use Rattle.bm_gf2.proofs.VectorLemmas.{xor_sum-zero, xor_sum-bits, xor_sum-ext, xor_sum-units, xor_sum-above, xor_sum-split, xor_sum-shr, xor_sum-mod, xor_sum-xor, xor_same}
+use Rattle.bm_gf2.proofs.VectorLemmas.{xor_sum-zero, xor_sum-bits, xor_sum-ext, xor_sum-units, xor_sum-above, xor_sum-split, xor_sum-shr}
+use Rattle.bm_gf2.proofs.VectorLemmas.{xor_sum-mod, xor_sum-xor, xor_same}
 use Rattle.bm_bufs.specs.Places.{places_by, PlacesRecords}
 use Rattle.bm_bufs.specs.Runs.{KeepsRuns, IsRunMatrix}
 

@@ -1,5 +1,6 @@
 -- Tables of the sums by which images change from one number to the next.
-use Rattle.std.proofs.Common.{◌≡◌, ◌≢◌, ℕ, suc, ◌+◌, ◌-◌, ◌*◌, ◌/◌, ◌%◌, ◌^◌, ◌<◌, ◌≤◌, bit_xor, List, length, slice_index, slice_set, get_or-set_same, get_or-set_other, w64, sym, ap, ◌∙◌, arith, ⊎_elim}
+use Rattle.std.proofs.Common.{◌≡◌, ◌≢◌, ℕ, suc, ◌+◌, ◌-◌, ◌*◌, ◌/◌, ◌%◌, ◌^◌, ◌<◌, ◌≤◌, bit_xor, List, length, slice_index, slice_set}
+use Rattle.std.proofs.Common.{get_or-set_same, get_or-set_other, w64, sym, ap, ◌∙◌, arith, ⊎_elim}
 use Rattle.std.specs.Int.{trailing_ones}
 use Rattle.std.specs.Int.Bits.{xor_assoc, xor_self, xor_zero_l, xor_mod, xor_shr, xor_shifted}
 use Rattle.std.proofs.lemmas.Nat.{xor_comm, pow_pos, pow-add, shl-shr}

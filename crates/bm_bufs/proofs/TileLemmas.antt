@@ -1,5 +1,6 @@
 -- Records of runs and of tiles.
-use Rattle.std.proofs.Common.{◌≡◌, ◌≢◌, ℕ, ◌+◌, ◌-◌, ◌*◌, ◌/◌, ◌%◌, ◌^◌, ◌<◌, ◌≤◌, bit_xor, sym, ap, ◌∙◌, subst, arith, inl, inr, ⊎_elim, ◌⊎◌, List}
+use Rattle.std.proofs.Common.{◌≡◌, ◌≢◌, ℕ, ◌+◌, ◌-◌, ◌*◌, ◌/◌, ◌%◌, ◌^◌, ◌<◌, ◌≤◌, bit_xor, sym, ap, ◌∙◌, subst, arith, inl, inr, ⊎_elim}
+use Rattle.std.proofs.Common.{◌⊎◌, List}
 use Rattle.std.specs.Fork.{slice_chunk}
 use Rattle.std.specs.Int.Bits.{xor_shifted, xor_mod, xor_shr, xor_assoc, xor_zero_l, xor_zero_r}
 use Rattle.std.proofs.lemmas.Nat.{pow_pos, pow_below, pow-add, xor_lt, div-mul-add, one_shl, shl_whole}
@@ -11,7 +12,8 @@ use Rattle.std.proofs.Props.{props}
 use Rattle.bm_gf2.specs.declared.matrix.Matrix.{Matrix}
 use Rattle.bm_gf2.specs.Matrix.{image, column, IsNonsingular}
 use Rattle.bm_gf2.specs.Vector.{xor_sum}
-use Rattle.bm_gf2.proofs.VectorLemmas.{xor_sum-mod, xor_sum-shr, xor_sum-ext, xor_sum-units, xor_sum-xor, xor_sum-above, xor_sum-lt, xor_same}
+use Rattle.bm_gf2.proofs.VectorLemmas.{xor_sum-mod, xor_sum-shr, xor_sum-ext, xor_sum-units, xor_sum-xor, xor_sum-above, xor_sum-lt}
+use Rattle.bm_gf2.proofs.VectorLemmas.{xor_same}
 use Rattle.bm_bufs.specs.declared.tile_map.TileMap.{TileMap}
 use Rattle.bm_bufs.specs.Tiles.{origin, HasRunBasis, KeepsTiles}
 use Rattle.bm_bufs.specs.Places.{places_by}
@@ -72,7 +74,8 @@ low_column b plus tile j keeps inside small =
 
 -- so do sums of low columns
 pub low_below : (b : Matrix) (plus tile low j : ℕ) → KeepsTiles b plus tile → low ≤ tile → tile ≤ b.n → xor_sum (column b) low j < 2 ^ tile
-low_below b plus tile low j keeps inside few = xor_sum-lt (column b) low tile j (λ i below. low_column b plus tile i keeps (omega arith) (omega arith))
+low_below b plus tile low j keeps inside few = xor_sum-lt (column b) low tile j
+    (λ i below. low_column b plus tile i keeps (omega arith) (omega arith))
 
 -- an image has as few bits
 image_below : (b : Matrix) (x : ℕ) → image b x < 2 ^ b.n
@@ -145,7 +148,8 @@ tile_end z n tile few inside =
 pub in_tile : (z tile low o : ℕ) → low ≤ tile → z / 2 ^ tile ≡ o
     → (o * 2 ^ (tile - low) ≤ z / 2 ^ low) × (z / 2 ^ low < o * 2 ^ (tile - low) + 2 ^ (tile - low))
 in_tile z tile low o few is =
-    let run : z / 2 ^ low ≡ o * 2 ^ (tile - low) + z % 2 ^ tile / 2 ^ low = tile_run z tile low few ∙ ap (λ x. x * 2 ^ (tile - low) + z % 2 ^ tile / 2 ^ low) is in
+    let run : z / 2 ^ low ≡ o * 2 ^ (tile - low) + z % 2 ^ tile / 2 ^ low = tile_run z tile low few
+    ∙ ap (λ x. x * 2 ^ (tile - low) + z % 2 ^ tile / 2 ^ low) is in
     let inside = run_inside (z % 2 ^ tile) tile low few (mod-lt z (pow_pos tile)) in
     (omega arith, omega arith)
 
@@ -173,7 +177,8 @@ pub run_of_tile : (o q n tile low : ℕ) → low ≤ tile → tile ≤ n → o <
     → o * 2 ^ (tile - low) + q < 2 ^ (n - low)
 run_of_tile o q n tile low few inside tile_short run_short =
     let room : (o + 1) * 2 ^ (tile - low) ≤ 2 ^ (n - tile + (tile - low)) = shift_fits o (n - tile) (tile - low) tile_short in
-    let e : 2 ^ (n - tile + (tile - low)) ≡ 2 ^ (n - low) = ap (λ x. 2 ^ x) (let e : n - tile + (tile - low) ≡ n - low = omega arith in e) in
+    let e : 2 ^ (n - tile + (tile - low)) ≡ 2 ^ (n - low) = ap (λ x. 2 ^ x) (let e : n - tile + (tile - low) ≡ n - low = omega arith in e)
+    in
     omega arith
 
 -- the numbers of a run stay below 2 ^ n
@@ -208,7 +213,8 @@ runs_of_tile q tile low width few short =
 -- a whole tile in the row, from its runs
 pub gathered : (m : TileMap) (w o : ℕ) (load row : List ℕ) → o < 2 ^ (m.basis.n - m.tile)
     → ((k : ℕ) → k < 2 ^ (m.tile - m.low)
-    → slice_chunk row (2 ^ m.low * w) k ≡ slice_chunk load (2 ^ m.low * w) (image m.basis ((o * 2 ^ (m.tile - m.low) + k) * 2 ^ m.low) / 2 ^ m.low))
+    → slice_chunk row (2 ^ m.low * w) k ≡ slice_chunk load (2 ^ m.low * w)
+    (image m.basis ((o * 2 ^ (m.tile - m.low) + k) * 2 ^ m.low) / 2 ^ m.low))
     → (z : ℕ) → z / 2 ^ m.tile ≡ o → slice_chunk row w (z % 2 ^ m.tile) ≡ slice_chunk load w (image m.basis z)
 gathered m w o load row inside runs z is =
     let few : m.low ≤ m.basis.n = omega (arith, m.low_in, m.tile_in, m.basis_size) in
@@ -275,7 +281,8 @@ tile_start m o inside =
     let start = o * 2 ^ (m.tile - m.low) in
     let short : start + 0 < 2 ^ (n - m.low) = run_of_tile o 0 n m.tile m.low m.low_in tile_few inside (pow_pos (m.tile - m.low)) in
     let whole : start % 18446744073709551616 ≡ start = shl_whole o (n - m.tile) (m.tile - m.low) 64 inside (omega (arith, m.low_in)) in
-    let again : start * 2 ^ m.low % 18446744073709551616 ≡ start * 2 ^ m.low = shl_whole start (n - m.low) m.low 64 (omega arith) (omega arith) in
+    let again : start * 2 ^ m.low % 18446744073709551616 ≡ start * 2 ^ m.low = shl_whole start (n - m.low) m.low 64 (omega arith)
+    (omega arith) in
     let end = run_end (start + 0) n m.low low_few short in
     let some : 0 < 2 ^ m.low = pow_pos m.low in (
       whole,
@@ -285,19 +292,22 @@ tile_start m o inside =
 
 -- a run of a tile, as the loop over them tests it
 pub tile_turn : (m : TileMap) (o q : ℕ) → o < 2 ^ (m.basis.n - m.tile) → q < 1 * 2 ^ (m.tile - m.low) % 18446744073709551616
-    → (q < 2 ^ (m.tile - m.low)) × (o * 2 ^ (m.tile - m.low) + q < 2 ^ (m.basis.n - m.low)) × (o * 2 ^ (m.tile - m.low) + q < 4503599627370496)
+    → (q < 2 ^ (m.tile - m.low)) × (o * 2 ^ (m.tile - m.low) + q < 2 ^ (m.basis.n - m.low))
+    × (o * 2 ^ (m.tile - m.low) + q < 4503599627370496)
 tile_turn m o q inside test =
     let n = m.basis.n in
     let few : n ≤ 52 = omega (arith, m.basis.few) in
     let tile_few : m.tile ≤ n = omega (arith, m.tile_in, m.basis_size) in
-    let one : 1 * 2 ^ (m.tile - m.low) % 18446744073709551616 ≡ 2 ^ (m.tile - m.low) = one_shl (m.tile - m.low) 64 (omega (arith, m.low_in)) in
+    let one : 1 * 2 ^ (m.tile - m.low) % 18446744073709551616 ≡ 2 ^ (m.tile - m.low) = one_shl (m.tile - m.low) 64 (omega (arith, m.low_in))
+    in
     let turn : q < 2 ^ (m.tile - m.low) = omega arith in
     let run = run_of_tile o q n m.tile m.low m.low_in tile_few inside turn in
     let most : 2 ^ (n - m.low) ≤ 2 ^ 52 = pow_mono {i = n - m.low} {j = 52} (omega arith) in
     (turn, run, omega arith)
 
 -- four records of a run, as the loop over them tests it
-pub four_turn : (low j : ℕ) → 2 ≤ low → low ≤ 52 → j < 1 * 2 ^ (low - 2) % 18446744073709551616 → (j * 4 + 4 ≤ 2 ^ low) × (j < 4503599627370496)
+pub four_turn : (low j : ℕ) → 2 ≤ low → low ≤ 52 → j < 1 * 2 ^ (low - 2) % 18446744073709551616 → (j * 4 + 4 ≤ 2 ^ low)
+    × (j < 4503599627370496)
 four_turn low j some few test =
     let one : 1 * 2 ^ (low - 2) % 18446744073709551616 ≡ 2 ^ (low - 2) = one_shl (low - 2) 64 (omega arith) in
     let all : 2 ^ low ≡ 2 ^ (low - 2) * 4 = run_count low 2 some in
@@ -319,7 +329,8 @@ four_more w low width at first from j place row load new some is here one two th
     let picked = few_picked w low some in
     let number : (k : ℕ) → k < 4 → bit_xor from (xor_sum w low k) ≡ bit_xor first (xor_sum w low (j * 4 + k)) =
     λ k small. ap (λ x. bit_xor x (xor_sum w low k)) here ∙ sym (four_numbers w low j k first small) in
-    let at_k : (k : ℕ) → (i ≡ j * 4 + k) → k < 4 → slice_chunk new width (place + k) ≡ slice_chunk row width (bit_xor from (xor_sum w low k))
+    let at_k : (k : ℕ) → (i ≡ j * 4 + k) → k < 4 → slice_chunk new width (place + k) ≡ slice_chunk row width
+    (bit_xor from (xor_sum w low k))
     → slice_chunk new width (at + i) ≡ slice_chunk row width (bit_xor first (xor_sum w low i)) =
     λ k e small copied. ap (slice_chunk new width) (let s : at + i ≡ place + k = omega arith in s) ∙ copied
     ∙ ap (slice_chunk row width) (number k small ∙ ap (λ x. bit_xor first (xor_sum w low x)) (sym e)) in

@@ -36,7 +36,8 @@ pub record FillsRun (m : TileMap) (w at first : ℕ) (row old new : List ℕ) : 
 
 -- the row has the records of tile o of the load, by number within the tile
 pub record GathersTile (m : TileMap) (o : ℕ) (load old new : List ℕ) : Type 0 where
-  pub moved : (z : ℕ) → z / 2 ^ m.tile ≡ o → slice_chunk new m.placing.width (z % 2 ^ m.tile) ≡ slice_chunk load m.placing.width (image m.basis z)
+  pub moved : (z : ℕ) → z / 2 ^ m.tile ≡ o → slice_chunk new m.placing.width (z % 2 ^ m.tile) ≡ slice_chunk load m.placing.width
+      (image m.basis z)
   pub size : length new ≡ length old
 
 -- the places of tile o have the records of the row, each from its origin; every other place is as before

@@ -1,5 +1,6 @@
 -- Butterflies on low bits, block after block.
-use Rattle.std.proofs.Common.{◌≡◌, ℕ, ◌⊎◌, inl, ⊎_elim, ◌+◌, ◌-◌, ◌*◌, ◌/◌, ◌%◌, ◌^◌, ◌<◌, ◌≤◌, List, length, take, drop, length-drop, refl, sym, ap, ◌∙◌, arith}
+use Rattle.std.proofs.Common.{◌≡◌, ℕ, ◌⊎◌, inl, ⊎_elim, ◌+◌, ◌-◌, ◌*◌, ◌/◌, ◌%◌, ◌^◌, ◌<◌, ◌≤◌, List, length, take, drop, length-drop, refl}
+use Rattle.std.proofs.Common.{sym, ap, ◌∙◌, arith}
 use Rattle.std.proofs.lemmas.Bool.{cases_lt}
 use Rattle.std.proofs.lemmas.List.{length-take-le}
 use Rattle.std.proofs.lemmas.Nat.{pow_pos}
@@ -27,7 +28,8 @@ pub butterflies_start : (count : ℕ) (xs : ℕ → List ℕ) → SameRecords co
 butterflies_start count xs x inside = sym (butterflies_none xs x)
 
 -- a block of a list that was transformed by itself
-pub block_done : (bits block start k : ℕ) (old mid new : List ℕ) → start ≡ block * (2 ^ bits * 8) → k ≡ 2 ^ bits * 8 → start + k ≤ length old
+pub block_done : (bits block start k : ℕ) (old mid new : List ℕ) → start ≡ block * (2 ^ bits * 8) → k ≡ 2 ^ bits * 8
+    → start + k ≤ length old
     → mid ≡ take k (drop start old) → length new ≡ length mid
     → ((xs : ℕ → List ℕ) → SameRecords (length mid / 8) (record_in_order mid) (butterflies 0 xs)
     → SameRecords (length mid / 8) (record_in_order new) (butterflies bits xs))

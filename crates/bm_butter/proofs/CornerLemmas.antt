@@ -1,5 +1,6 @@
 -- The places of groups whose bits are bits of the places.
-use Rattle.std.proofs.Common.{◌≡◌, ◌≢◌, ℕ, zero, suc, refl, ◌+◌, ◌-◌, ◌*◌, ◌/◌, ◌%◌, ◌^◌, ◌<◌, ◌≤◌, ◌⊎◌, inl, inr, min, max, List, sym, ap, ◌∙◌, subst, arith, ⊎_elim}
+use Rattle.std.proofs.Common.{◌≡◌, ◌≢◌, ℕ, zero, suc, refl, ◌+◌, ◌-◌, ◌*◌, ◌/◌, ◌%◌, ◌^◌, ◌<◌, ◌≤◌, ◌⊎◌, inl, inr, min, max, List, sym, ap}
+use Rattle.std.proofs.Common.{◌∙◌, subst, arith, ⊎_elim}
 use Rattle.std.proofs.lemmas.Bool.{cases_eq, cases_lt}
 use Rattle.std.proofs.lemmas.Nat.{pow_pos, pow-add, div-mul-add}
 use Rattle.std.proofs.lemmas.Nat.Bits.{bit_at-lt, bit_at_cat_low, bit_at_cat_high, bit_at_lowest}
@@ -8,7 +9,8 @@ use Rattle.std.proofs.Math.Pow.{pow_mono}
 use Rattle.std.specs.Int.{bit_at}
 use Rattle.bm_butter.specs.Pairs.{AreHalves}
 use Rattle.bm_butter.specs.Groups.{pick, AreTold, AreCorners, IsCorner, GroupsDone, spread, spread_two, corner_place, run_place}
-use Rattle.bm_butter.proofs.SpreadLemmas.{squeeze_two, squeeze_two-told, spread_two-lt, split_blocks, join_blocks, two_halves, twice_as_many}
+use Rattle.bm_butter.proofs.SpreadLemmas.{squeeze_two, squeeze_two-told, spread_two-lt, split_blocks, join_blocks, two_halves}
+use Rattle.bm_butter.proofs.SpreadLemmas.{twice_as_many}
 use Rattle.bm_butter.proofs.QuadLemmas.{by_four}
 
 -- the group of a place is told

@@ -1,5 +1,6 @@
 -- Groups of four records.
-use Rattle.std.proofs.Common.{◌≡◌, ◌≢◌, ℕ, zero, suc, ◌+◌, ◌-◌, ◌*◌, ◌/◌, ◌%◌, ◌^◌, ◌<◌, ◌≤◌, List, refl, sym, ap, ◌∙◌, subst, arith, ⊎_elim}
+use Rattle.std.proofs.Common.{◌≡◌, ◌≢◌, ℕ, zero, suc, ◌+◌, ◌-◌, ◌*◌, ◌/◌, ◌%◌, ◌^◌, ◌<◌, ◌≤◌, List, refl, sym, ap, ◌∙◌, subst, arith}
+use Rattle.std.proofs.Common.{⊎_elim}
 use Rattle.std.specs.Int.{bit_at}
 use Rattle.std.proofs.lemmas.Bool.{cases_eq, cases_lt}
 use Rattle.std.proofs.lemmas.Nat.{pow_pos, pow-add, div-mul-add}
@@ -96,14 +97,16 @@ member_bit i (suc zero) q t r small below short =
     let odd = t % 2 in
     let half = t / 2 in
     let two : (2 * q + half) * 2 ^ (i + 1) ≡ (2 * q + half) * 2 ^ i + (2 * q + half) * 2 ^ i =
-    ap (λ c. (2 * q + half) * c) (two_halves i) ∙ (let e : (2 * q + half) * (2 ^ i + 2 ^ i) ≡ (2 * q + half) * 2 ^ i + (2 * q + half) * 2 ^ i = omega arith in e) in
+    ap (λ c. (2 * q + half) * c) (two_halves i)
+    ∙ (let e : (2 * q + half) * (2 ^ i + 2 ^ i) ≡ (2 * q + half) * 2 ^ i + (2 * q + half) * 2 ^ i = omega arith in e) in
     let digits : (4 * q + t) * 2 ^ i ≡ (2 * q + half) * 2 ^ i + (2 * q + half) * 2 ^ i + odd * 2 ^ i =
     ap (λ c. c * 2 ^ i) (let e : 4 * q + t ≡ 2 * q + half + (2 * q + half) + odd = omega arith in e)
     ∙ add-mul (2 * q + half + (2 * q + half)) odd (2 ^ i) ∙ ap (λ c. c + odd * 2 ^ i) (add-mul (2 * q + half) (2 * q + half) (2 ^ i)) in
     let is : x ≡ (2 * q + half) * 2 ^ (i + 1) + (odd * 2 ^ i + r) = omega arith in
     let rest : odd * 2 ^ i + r < 2 ^ (i + 1) = ⊎_elim
     (λ (p : odd ≡ 0). let e : odd * 2 ^ i ≡ 0 * 2 ^ i = ap (λ c. c * 2 ^ i) p in omega (arith, two_halves i))
-    (λ (p : odd ≢ 0). let one : odd ≡ 1 = omega arith in let e : odd * 2 ^ i ≡ 1 * 2 ^ i = ap (λ c. c * 2 ^ i) one in omega (arith, two_halves i))
+    (λ (p : odd ≢ 0). let one : odd ≡ 1 = omega arith in let e : odd * 2 ^ i ≡ 1 * 2 ^ i = ap (λ c. c * 2 ^ i) one in omega
+    (arith, two_halves i))
     (cases_eq odd 0) in
     ap (λ c. c % 2) (ap (λ c. c / 2 ^ (i + 1)) is ∙ div-mul-add (2 * q + half) (2 ^ (i + 1)) (odd * 2 ^ i + r) rest)
     ∙ (let e : (2 * q + half) % 2 ≡ t / 2 % 2 = omega arith in e)

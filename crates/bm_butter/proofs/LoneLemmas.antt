@@ -96,7 +96,8 @@ pub lone_corners : (a : Matrix) (plus i h k y sum difference sum_above differenc
     → corner_place (min h k) (max h k) (sum + sum_above) (difference + sum_above) (sum + difference_above) (difference + difference_above)
     (squeeze_two (min h k) (max h k) (place a plus y)) t ≡ place a plus (y + t * 2 ^ i)
 unfolding pick
-lone_corners a plus i h k y sum difference sum_above difference_above inside inner outer halves halves_above clear clear_above clear_beside =
+lone_corners a plus i h k y sum difference sum_above difference_above inside inner outer halves halves_above clear clear_above clear_beside
+    =
     let x = place a plus y in
     let x_1 = place a plus (y + 2 ^ i) in
     let differ = lone_apart a i h k (omega arith) inner outer inside in
@@ -104,11 +105,14 @@ lone_corners a plus i h k y sum difference sum_above difference_above inside inn
     let bit_k : bit_at x k ≡ bit_at plus k = lone_place a plus (i + 1) k y outer clear_above in
     let bit_k_1 : bit_at x_1 k ≡ bit_at plus k = lone_place a plus (i + 1) k (y + 2 ^ i) outer clear_beside in
     let base = spread_two (min h k) (max h k) (squeeze_two (min h k) (max h k) x) in
-    let first : base + (sum + sum_above) ≡ x = ap (λ c. base + (c + sum_above)) (sym (ap (λ c. c * 2 ^ h) bit_h ∙ halves_sum plus h sum difference halves))
-    ∙ ap (λ c. base + (bit_at x h * 2 ^ h + c)) (sym (ap (λ c. c * 2 ^ k) bit_k ∙ halves_sum plus k sum_above difference_above halves_above))
+    let first : base + (sum + sum_above) ≡ x = ap (λ c. base + (c + sum_above))
+    (sym (ap (λ c. c * 2 ^ h) bit_h ∙ halves_sum plus h sum difference halves))
+    ∙ ap (λ c. base + (bit_at x h * 2 ^ h + c))
+    (sym (ap (λ c. c * 2 ^ k) bit_k ∙ halves_sum plus k sum_above difference_above halves_above))
     ∙ both_bits h k x differ in
     let turn : bit_xor x (2 ^ h) + sum ≡ x + difference = halves_turn plus h sum difference x halves bit_h in
-    let turn_above : bit_xor x (2 ^ k) + sum_above ≡ x + difference_above = halves_turn plus k sum_above difference_above x halves_above bit_k in
+    let turn_above : bit_xor x (2 ^ k) + sum_above ≡ x + difference_above = halves_turn plus k sum_above difference_above x halves_above
+    bit_k in
     let turn_both : bit_xor x_1 (2 ^ k) + sum_above ≡ x_1 + difference_above =
     halves_turn plus k sum_above difference_above x_1 halves_above bit_k_1 in
     let is_1 : bit_xor x (2 ^ h) ≡ x_1 = ap (bit_xor x) (sym inner.unit) ∙ place_with_bit a plus i y (omega arith) clear in
@@ -135,7 +139,8 @@ corner_blocks n high inside some = (
 )
 
 -- all groups
-pub SameRecords-lone : (a : Matrix) (plus i h k sum difference sum_above difference_above : ℕ) (old new : List ℕ) → plus < 2 ^ a.n → i + 1 < a.n
+pub SameRecords-lone : (a : Matrix) (plus i h k sum difference sum_above difference_above : ℕ) (old new : List ℕ) → plus < 2 ^ a.n
+    → i + 1 < a.n
     → IsLoneBit a i h → IsLoneBit a (i + 1) k
     → HoldHalves plus h sum difference → HoldHalves plus k sum_above difference_above
     → GroupsDone (corner_place (min h k) (max h k) (sum + sum_above) (difference + sum_above) (sum + difference_above)

@@ -13,7 +13,8 @@ use Rattle.bm_butter.specs.Records.{record_at_place}
 use Rattle.bm_butter.specs.Groups.{pick, AreApart, AreTold, GroupsDone, spread, spread_two}
 use Rattle.bm_butter.proofs.PlaceLemmas.{place, place_below, place_with_bit}
 use Rattle.bm_butter.proofs.QuadLemmas.{by_four}
-use Rattle.bm_butter.proofs.SpreadLemmas.{squeeze_two, squeeze_two-told, squeeze_two-lt, spread_two-squeeze, spread_two-lt, spread-lt, spread_bit, spread_more, two_halves, twice_as_many}
+use Rattle.bm_butter.proofs.SpreadLemmas.{squeeze_two, squeeze_two-told, squeeze_two-lt, spread_two-squeeze, spread_two-lt, spread-lt}
+use Rattle.bm_butter.proofs.SpreadLemmas.{spread_bit, spread_more, two_halves, twice_as_many}
 use Rattle.bm_butter.proofs.WithoutLemmas.{spread_low}
 use Rattle.bm_butter.proofs.GroupLemmas.{SameRecords-groups}
 

@@ -169,7 +169,8 @@ spread_two-lt low high b c w m below small_b small_c inside =
     let first : spread low w + b * 2 ^ low < m * 2 ^ (high - low - 1) * 2 ^ (low + 1) =
     spread-lt low b w (m * 2 ^ (high - low - 1)) small_b (subst (λ k. w < k) (split_blocks low high m below) inside) in
     let second : spread high (spread low w + b * 2 ^ low) + c * 2 ^ high < m * 2 ^ (high + 1) =
-    spread-lt high c (spread low w + b * 2 ^ low) m small_c (subst (λ k. spread low w + b * 2 ^ low < k) (join_blocks low high m below) first)
+    spread-lt high c (spread low w + b * 2 ^ low) m small_c (subst (λ k. spread low w + b * 2 ^ low < k) (join_blocks low high m below)
+    first)
     in
     subst (λ k. k < m * 2 ^ (high + 1)) (sym (spread_both low high b c w below small_b)) second
 

@@ -1,5 +1,6 @@
 -- What stands where in a body page.
-use Rattle.std.proofs.Common.{◌≡◌, ℕ, zero, suc, ◌+◌, ◌-◌, ◌*◌, ◌^◌, ◌<◌, ◌≤◌, List, [], ◌∷◌, ◌++◌, length, drop, get_or, slice_index, replicate}
+use Rattle.std.proofs.Common.{◌≡◌, ℕ, zero, suc, ◌+◌, ◌-◌, ◌*◌, ◌^◌, ◌<◌, ◌≤◌, List, [], ◌∷◌, ◌++◌, length, drop, get_or, slice_index}
+use Rattle.std.proofs.Common.{replicate}
 use Rattle.std.proofs.Common.{refl, sym, ap, ◌∙◌, arith, append_assoc, length-append, codes}
 use Rattle.std.proofs.lemmas.List.{drop_at, get_or-append-add, append-nil}
 use Rattle.std.proofs.Math.Nat.{pow-le-pow_right}
@@ -42,7 +43,8 @@ byte_behind x at front rest page long is =
     ∙ ap (λ (n : ℕ). get_or (front ++ x ∷ rest) n 0) (let e : at ≡ length front + 0 = omega arith in e)
     ∙ get_or-append-add front (x ∷ rest) 0 0
 
-pub length-body_head : (text : List ℕ) (version first second number : ℕ) → length text ≡ 8 → length (body_head text version first second number) ≡ 16
+pub length-body_head : (text : List ℕ) (version first second number : ℕ) → length text ≡ 8
+    → length (body_head text version first second number) ≡ 16
 unfolding body_head
 length-body_head text version first second number h =
     let a : length (u16_bytes version) ≡ 2 = length-u16_bytes version in
@@ -71,7 +73,8 @@ columns_after : List ℕ → ℕ → ℕ → List ℕ
 columns_after a j zero = []
 columns_after a j (suc k) = columns_after a j k ++ u64_bytes (slice_index a (j + 1 + k))
 
-split_columns : (a : List ℕ) (j k : ℕ) → column_bytes a (j + 1 + k) ≡ column_bytes a j ++ (u64_bytes (slice_index a j) ++ columns_after a j k)
+split_columns : (a : List ℕ) (j k : ℕ)
+    → column_bytes a (j + 1 + k) ≡ column_bytes a j ++ (u64_bytes (slice_index a j) ++ columns_after a j k)
 unfolding column_bytes columns_after
 split_columns a j zero =
     let e : j + 1 + 0 ≡ suc j = omega arith in
@@ -176,9 +179,11 @@ small_number v n few h =
     omega arith
 
 -- what four and five writes make together
-pub joined_4 : (v₀ v₁ v₂ v₃ v₄ a b p d : List ℕ) → v₀ ≡ [] → v₁ ≡ v₀ ++ a → v₂ ≡ v₁ ++ b → v₃ ≡ v₂ ++ p → v₄ ≡ v₃ ++ d → v₄ ≡ a ++ (b ++ (p ++ d))
+pub joined_4 : (v₀ v₁ v₂ v₃ v₄ a b p d : List ℕ) → v₀ ≡ [] → v₁ ≡ v₀ ++ a → v₂ ≡ v₁ ++ b → v₃ ≡ v₂ ++ p → v₄ ≡ v₃ ++ d
+    → v₄ ≡ a ++ (b ++ (p ++ d))
 joined_4 v₀ v₁ v₂ v₃ v₄ a b p d h₀ h₁ h₂ h₃ h₄ =
-    h₄ ∙ ap (λ (x : List ℕ). x ++ d) (h₃ ∙ ap (λ (x : List ℕ). x ++ p) (h₂ ∙ ap (λ (x : List ℕ). x ++ b) (h₁ ∙ ap (λ (x : List ℕ). x ++ a) h₀)))
+    h₄ ∙ ap (λ (x : List ℕ). x ++ d)
+    (h₃ ∙ ap (λ (x : List ℕ). x ++ p) (h₂ ∙ ap (λ (x : List ℕ). x ++ b) (h₁ ∙ ap (λ (x : List ℕ). x ++ a) h₀)))
     ∙ simp append_assoc
 
 pub joined_5 : (v₀ v₁ v₂ v₃ v₄ v₅ a b p d e : List ℕ) → v₀ ≡ [] → v₁ ≡ v₀ ++ a → v₂ ≡ v₁ ++ b → v₃ ≡ v₂ ++ p → v₄ ≡ v₃ ++ d → v₅ ≡ v₄ ++ e
@@ -190,7 +195,11 @@ joined_5 v₀ v₁ v₂ v₃ v₄ v₅ a b p d e h₀ h₁ h₂ h₃ h₄ h₅ =
 load_parts : (s : Shape) → (rest : List ℕ) × (load_page s ≡ codes "BMMCLOAD" ++ (u16_bytes 1 ++ (s.n ∷ s.b ∷ s.d ∷ s.m ∷ (u16_bytes
     s.width ++ rest))))
 unfolding load_page padded
-load_parts s = (replicate (512 - length (codes "BMMCLOAD" ++ (u16_bytes 1 ++ (s.n ∷ s.b ∷ s.d ∷ s.m ∷ u16_bytes s.width)))) 0, simp append_assoc)
+load_parts s = (
+  replicate (512 - length (codes "BMMCLOAD" ++ (u16_bytes 1 ++ (s.n ∷ s.b ∷ s.d ∷ s.m ∷ u16_bytes s.width)))) 0,
+  simp
+      append_assoc,
+)
 
 pub record LoadNumbers (s : Shape) (page : List ℕ) : Type 0 where
   pub n : slice_index page 10 ≡ s.n
@@ -205,7 +214,8 @@ load_numbers s page is =
     let front = codes "BMMCLOAD" ++ u16_bytes 1 in
     let one : length (u16_bytes 1) ≡ 2 = length-u16_bytes 1 in
     let long : length (codes "BMMCLOAD" ++ u16_bytes 1) ≡ 10 = length-append (codes "BMMCLOAD") (u16_bytes 1) ∙ ap (λ (k : ℕ). 8 + k) one in
-    let whole = is ∙ parts.1 ∙ sym (append_assoc (codes "BMMCLOAD") (u16_bytes 1) (s.n ∷ s.b ∷ s.d ∷ s.m ∷ (u16_bytes s.width ++ parts.0))) in
+    let whole = is ∙ parts.1 ∙ sym (append_assoc (codes "BMMCLOAD") (u16_bytes 1) (s.n ∷ s.b ∷ s.d ∷ s.m ∷ (u16_bytes s.width ++ parts.0)))
+    in
     let few = s.keeps.record_few in
     record {
       n = byte_behind s.n 10 front (s.b ∷ s.d ∷ s.m ∷ (u16_bytes s.width ++ parts.0)) page long whole;
@@ -214,7 +224,8 @@ load_numbers s page is =
       d = byte_behind s.d 12 (front ++ s.n ∷ s.b ∷ []) (s.m ∷ (u16_bytes s.width ++ parts.0)) page
           (length-append front (s.n ∷ s.b ∷ []) ∙ ap (λ (k : ℕ). k + 2) long) (whole ∙ sym (append_assoc front (s.n ∷ s.b ∷ []) _));
       m = byte_behind s.m 13 (front ++ s.n ∷ s.b ∷ s.d ∷ []) (u16_bytes s.width ++ parts.0) page
-          (length-append front (s.n ∷ s.b ∷ s.d ∷ []) ∙ ap (λ (k : ℕ). k + 3) long) (whole ∙ sym (append_assoc front (s.n ∷ s.b ∷ s.d ∷ []) _));
+          (length-append front (s.n ∷ s.b ∷ s.d ∷ []) ∙ ap (λ (k : ℕ). k + 3) long)
+          (whole ∙ sym (append_assoc front (s.n ∷ s.b ∷ s.d ∷ []) _));
       width = u16_behind s.width 14 (front ++ s.n ∷ s.b ∷ s.d ∷ s.m ∷ []) parts.0 page (omega (arith, few))
           (length-append front (s.n ∷ s.b ∷ s.d ∷ s.m ∷ []) ∙ ap (λ (k : ℕ). k + 4) long)
           (whole ∙ sym (append_assoc front (s.n ∷ s.b ∷ s.d ∷ s.m ∷ []) _));
@@ -224,8 +235,11 @@ load_numbers s page is =
 part_parts : (pass loads : ℕ) → (rest : List ℕ) × (part_page pass loads ≡ codes "BMMCPART" ++ (u16_bytes 2 ++ (u16_bytes
     pass ++ (0 ∷ 0 ∷ 0 ∷ 0 ∷ (u64_bytes loads ++ rest)))))
 unfolding part_page padded
-part_parts pass loads =
-    (replicate (512 - length (codes "BMMCPART" ++ (u16_bytes 2 ++ (u16_bytes pass ++ (0 ∷ 0 ∷ 0 ∷ 0 ∷ u64_bytes loads))))) 0, simp append_assoc)
+part_parts pass loads = (
+  replicate (512 - length (codes "BMMCPART" ++ (u16_bytes 2 ++ (u16_bytes pass ++ (0 ∷ 0 ∷ 0 ∷ 0 ∷ u64_bytes loads))))) 0,
+  simp
+      append_assoc,
+)
 
 part_pass : (pass loads : ℕ) (page : List ℕ) → pass < 2 ^ 16 → page ≡ part_page pass loads → u16_in (drop 10 page) ≡ pass
 part_pass pass loads page small is =

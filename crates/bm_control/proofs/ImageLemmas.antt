@@ -1,5 +1,6 @@
 -- Images of a rack, and pages that no stop changes.
-use Rattle.std.proofs.Common.{◌≡◌, ◌⊎◌, inl, inr, ℕ, ◌<◌, Bool, true, false, List, [], length, slice_index_or, set, replicate, Some, Result, refl}
+use Rattle.std.proofs.Common.{◌≡◌, ◌⊎◌, inl, inr, ℕ, ◌<◌, Bool, true, false, List, [], length, slice_index_or, set, replicate, Some, Result}
+use Rattle.std.proofs.Common.{refl}
 use Rattle.std.proofs.Common.{sym, ◌∙◌, ap, subst, arith, length-set, get_or-set_same, get_or-set_other}
 use Rattle.std.proofs.lemmas.List.{length-replicate}
 use Rattle.std.proofs.lemmas.Bool.{false≢true, cases_eq, cases_Bool}
@@ -21,7 +22,8 @@ length-open_gate = refl
 pub zeros_closed : (page : List ℕ) → page ≡ replicate 512 0 → IsClosedGate page
 unfolding open_gate
 zeros_closed page zeros gate =
-    let e : slice_index_or (replicate 512 0) 0 0 ≡ slice_index_or open_gate 0 0 = ap (λ (x : List ℕ). slice_index_or x 0 0) (sym zeros ∙ gate) in
+    let e : slice_index_or (replicate 512 0) 0 0 ≡ slice_index_or open_gate 0 0 = ap (λ (x : List ℕ). slice_index_or x 0 0)
+    (sym zeros ∙ gate) in
     omega (arith, e)
 
 -- a page that no stop changes: it is clean, and this holds of it
@@ -29,12 +31,14 @@ pub record Settled (P : List ℕ → Type 0) (page : ℕ) (v : RackView) : Type 
   pub clean : v.dirty (page_unit page) ≡ false
   pub holds : P (page_at v.contents page)
 
-pub settled_in_image : (P : List ℕ → Type 0) (page : ℕ) (v : RackView) (dims : Dims) (image : Contents) → Settled P page v → IsImage dims v image
+pub settled_in_image : (P : List ℕ → Type 0) (page : ℕ) (v : RackView) (dims : Dims) (image : Contents) → Settled P page v
+    → IsImage dims v image
     → P (page_at image page)
 settled_in_image P page v dims image s i = subst P (sym (i.clean (page_unit page) s.clean)) s.holds
 
 -- a change elsewhere
-pub settled_within : (P : List ℕ → Type 0) (Q : RackUnit → Type 0) (page : ℕ) (old new : RackView) → DirtiesOnly Q old new → ¬ Q (page_unit page)
+pub settled_within : (P : List ℕ → Type 0) (Q : RackUnit → Type 0) (page : ℕ) (old new : RackView) → DirtiesOnly Q old new
+    → ¬ Q (page_unit page)
     → Settled P page old → Settled P page new
 settled_within P Q page old new w apart s = record {
   clean = w.dirty (page_unit page) apart s.clean;
@@ -63,7 +67,8 @@ image_synced old new r dims image s i = record {
 }
 
 -- an image where nothing but counts changed is one from before
-pub image_state : (old new : RackView) (dims : Dims) (image : Contents) → SameState old new → IsImage dims new image → IsImage dims old image
+pub image_state : (old new : RackView) (dims : Dims) (image : Contents) → SameState old new → IsImage dims new image
+    → IsImage dims old image
 image_state old new dims image s i = record {
   sizes = i.sizes;
   clean = λ u h. i.clean u (ap (λ (f : RackUnit → Bool). f u) s.dirty ∙ h) ∙ ap (λ c. unit_at c u) s.contents;
@@ -94,7 +99,8 @@ with_page_sizes dims c page bytes long sizes = record {
     ]
 
 -- other units are as before
-with_page_other : (c : Contents) (page : ℕ) (bytes : List ℕ) (u : RackUnit) → ¬ IsPage page u → unit_at (with_page page bytes c) u ≡ unit_at c u
+with_page_other : (c : Contents) (page : ℕ) (bytes : List ℕ) (u : RackUnit) → ¬ IsPage page u
+    → unit_at (with_page page bytes c) u ≡ unit_at c u
 unfolding with_page
 with_page_other c page bytes (block_unit disk place) h = refl
 with_page_other c page bytes (page_unit k) h = get_or-set_other c.pages page k bytes [] h
@@ -189,7 +195,8 @@ image_back page old new dims image below sizes w i = (
 )
 
 -- an image after a page was written in which that page is as before is one from before it
-pub image_same : (page : ℕ) (old new : RackView) (dims : Dims) (image : Contents) → DirtiesOnly (IsPage page) old new → IsImage dims new image
+pub image_same : (page : ℕ) (old new : RackView) (dims : Dims) (image : Contents) → DirtiesOnly (IsPage page) old new
+    → IsImage dims new image
     → page_at image page ≡ page_at old.contents page → IsImage dims old image
 image_same page old new dims image w i here = record {
   sizes = i.sizes;

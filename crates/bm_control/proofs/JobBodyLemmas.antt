@@ -16,7 +16,8 @@ use Rattle.bm_forms.proofs.PassLimitLemmas.{limit_few}
 use Rattle.bm_base.specs.Shape.{loads_of}
 use Rattle.bm_control.specs.Bodies.{u16_in, u64_in, body_head, map_bytes, map_page, kind_of, job_map, job_version, named_loads, job_page}
 use Rattle.bm_control.specs.Bodies.{pass_page, IsJobBody, IsPassBody}
-use Rattle.bm_control.proofs.BodyLemmas.{length-body_head, length-map_bytes, loads_small, version_of, first_of, second_of, number_of_head, last_of}
+use Rattle.bm_control.proofs.BodyLemmas.{length-body_head, length-map_bytes, loads_small, version_of, first_of, second_of, number_of_head}
+use Rattle.bm_control.proofs.BodyLemmas.{last_of}
 
 -- the rounds of the transform have few passes together
 rounds_most : (n m b before x y : ℕ) → b < m → m ≤ n → n ≤ 52 → before ≡ div_ceil n m - 1 → x ≤ b + 2 → y ≤ b + 2 → before * x + y ≤ 254
@@ -49,7 +50,8 @@ limit-most s Walsh =
     rounds_most s.n s.m s.b (rounds_of s - 1) (rotation_limit s s.m)
     (rotation_limit s (last_bits s)) s.keeps.block s.keeps.memory s.keeps.addresses refl
     (limit_few (rotation_columns s.n s.m s.n) s.b s.m (rank_of_rows (rotation_columns s.n s.m s.n) s.b s.b) s.keeps.block refl)
-    (limit_few (rotation_columns s.n (last_bits s) s.n) s.b s.m (rank_of_rows (rotation_columns s.n (last_bits s) s.n) s.b s.b) s.keeps.block refl)
+    (limit_few (rotation_columns s.n (last_bits s) s.n) s.b s.m (rank_of_rows (rotation_columns s.n (last_bits s) s.n) s.b s.b)
+    s.keeps.block refl)
 
 -- the numbers of a job body
 pub record JobNumbers (s : Shape) (page : List ℕ) (job : Job) (passes every : ℕ) : Type 0 where
@@ -90,7 +92,8 @@ job_map_short s (Permute f) =
     omega (arith, e, few)
 job_map_short s Walsh = omega arith
 
-pub job_numbers : (s : Shape) (page : List ℕ) (job : Job) (passes every : ℕ) → IsJobBody s page job passes every → JobNumbers s page job passes every
+pub job_numbers : (s : Shape) (page : List ℕ) (job : Job) (passes every : ℕ) → IsJobBody s page job passes every
+    → JobNumbers s page job passes every
 unfolding job_page
 job_numbers s page job passes every body =
     let few = limit-most s job in
@@ -101,9 +104,12 @@ job_numbers s page job passes every body =
     record {
       version = version_of (codes "BMMCTASK") (job_map job) page (job_version s every) (kind_of job) s.n passes (named_loads s every) refl
           (version_small s every) body.page_is;
-      kind = first_of (codes "BMMCTASK") (job_map job) page (job_version s every) (kind_of job) s.n passes (named_loads s every) refl body.page_is;
-      bits = second_of (codes "BMMCTASK") (job_map job) page (job_version s every) (kind_of job) s.n passes (named_loads s every) refl body.page_is;
-      passes_are = number_of_head (codes "BMMCTASK") (job_map job) page (job_version s every) (kind_of job) s.n passes (named_loads s every) refl
+      kind = first_of (codes "BMMCTASK") (job_map job) page (job_version s every) (kind_of job) s.n passes (named_loads s every) refl
+          body.page_is;
+      bits = second_of (codes "BMMCTASK") (job_map job) page (job_version s every) (kind_of job) s.n passes (named_loads s every) refl
+          body.page_is;
+      passes_are = number_of_head (codes "BMMCTASK") (job_map job) page (job_version s every) (kind_of job) s.n passes (named_loads s every)
+          refl
           (omega arith) body.page_is;
       named = last_of (body_head (codes "BMMCTASK") (job_version s every) (kind_of job) s.n passes) (job_map job) page (named_loads s every)
           (omega arith) (named_small s every body.fits.every_few) body.page_is;

@@ -1,5 +1,6 @@
 -- An open job in contents of which one page is another.
-use Rattle.std.proofs.Common.{◌≡◌, ◌≢◌, ◌⊎◌, inl, inr, ℕ, ◌+◌, ◌/◌, ◌%◌, ◌^◌, ◌<◌, ◌≤◌, List, [], ◌∷◌, length, take, slice_get, get_or, Some, sym, ◌∙◌, ap, subst, arith}
+use Rattle.std.proofs.Common.{◌≡◌, ◌≢◌, ◌⊎◌, inl, inr, ℕ, ◌+◌, ◌/◌, ◌%◌, ◌^◌, ◌<◌, ◌≤◌, List, [], ◌∷◌, length, take, slice_get, get_or}
+use Rattle.std.proofs.Common.{Some, sym, ◌∙◌, ap, subst, arith}
 use Rattle.std.proofs.Math.Path.{subst₂, fun_ext}
 use Rattle.std.proofs.lemmas.Bool.{cases_eq}
 use Rattle.std.proofs.lemmas.Option.{slice_get_within, slice_get-get_or}
@@ -17,7 +18,8 @@ use Rattle.bm_forms.specs.Job.{meaning}
 use Rattle.bm_forms.specs.Plan.{all_passed}
 use Rattle.bm_base.specs.Shape.{loads_of}
 use Rattle.bm_control.specs.Bodies.{IsJobBody, IsPassBody, IsPartBody}
-use Rattle.bm_control.specs.Pages.{load_body, load_gate, job_body, job_gate, pass_body, pass_gate, slot_body, slot_gate, HasOpenJob, HasLoadBody}
+use Rattle.bm_control.specs.Pages.{load_body, load_gate, job_body, job_gate, pass_body, pass_gate, slot_body, slot_gate, HasOpenJob}
+use Rattle.bm_control.specs.Pages.{HasLoadBody}
 use Rattle.bm_control.specs.Consistent.{input_of, GatesAre, LoadsMoved, SlotStands, JobStands}
 use Rattle.bm_control.specs.Consistent.{IsConsistent}
 use Rattle.bm_control.proofs.ImageLemmas.{DiffersIn}
@@ -42,7 +44,8 @@ job_few s v j =
     omega (arith, few, less)
 
 -- a slot that is open and stands, where another page than its body is changed
-pub slot_kept : (P : ℕ → Type 0) (s : Shape) (a b : Contents) (forms : List PassForm) (done slot : ℕ) → DiffersIn P a b → ¬ P (slot_body slot)
+pub slot_kept : (P : ℕ → Type 0) (s : Shape) (a b : Contents) (forms : List PassForm) (done slot : ℕ) → DiffersIn P a b
+    → ¬ P (slot_body slot)
     → SlotStands s a forms done slot → SlotStands s b forms done slot
 slot_kept P s a b forms done slot d other t = record {
   pass = t.pass;
@@ -66,7 +69,8 @@ job_kept P s a b j done d two bodies gates work slots = record {
   every = j.every;
   body = subst (λ (p : List ℕ). IsJobBody s p j.job (length j.forms) j.every) (sym (d.pages job_body two)) j.body;
   of_shape = j.of_shape;
-  bodies = λ k pass is. subst (λ (p : List ℕ). IsPassBody s k p pass) (sym (d.pages (pass_body k) (bodies k (slice_get_within j.forms k pass is))))
+  bodies = λ k pass is. subst (λ (p : List ℕ). IsPassBody s k p pass)
+      (sym (d.pages (pass_body k) (bodies k (slice_get_within j.forms k pass is))))
       (j.bodies k pass is);
   means = subst (λ (input : ℕ → List ℕ). SameRecords (2 ^ s.n) (all_passed j.forms input) (meaning s.n j.job input))
       (sym (recs_same P s Input a b d)) j.means;
@@ -122,11 +126,13 @@ pub job_slot : (slot : ℕ) (s : Shape) (a b : Contents) (j : JobStands s a) →
     → (j.every < loads_of s → IsOpenGate (page_at b (slot_gate slot)) → SlotStands s b j.forms j.done slot) → JobStands s b
 job_slot slot s a b j d stands =
     let few = job_few s a j in
-    job_kept (InSlot slot) s a b j j.done d (slot_late slot job_body (omega arith)) (λ k h. slot_late slot (pass_body k) (omega (arith, h, few)))
+    job_kept (InSlot slot) s a b j j.done d (slot_late slot job_body (omega arith))
+    (λ k h. slot_late slot (pass_body k) (omega (arith, h, few)))
     (gates_kept (InSlot slot) a b (length j.forms) j.done d (λ k h. slot_late slot (pass_gate k) (omega (arith, h, few))) j.gates)
     j.work
     (λ less other h gate. elim (cases_eq other slot) [
-      | inl same ↦ subst (SlotStands s b j.forms j.done) (sym same) (stands less (subst (λ (x : ℕ). IsOpenGate (page_at b (slot_gate x))) same gate))
+      | inl same ↦ subst (SlotStands s b j.forms j.done) (sym same)
+          (stands less (subst (λ (x : ℕ). IsOpenGate (page_at b (slot_gate x))) same gate))
       | inr not ↦ slot_kept (InSlot slot) s a b j.forms j.done other d (slot_apart slot other not)
           (j.slots less other h (sym (d.pages (slot_gate other) (slot_apart_gate slot other not)) ∙ gate))
     ])

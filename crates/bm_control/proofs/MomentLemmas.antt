@@ -99,15 +99,18 @@ job_opening s a b k j now below d records =
     ]
 
 -- while the gate of the pass that is done is written on a clean rack
-pub sound_opening : (old new : RackView) (dims : Dims) (k : ℕ) → old.stands ≡ Some dims → HasSizes dims old.contents → IsSound old → IsClean old
+pub sound_opening : (old new : RackView) (dims : Dims) (k : ℕ) → old.stands ≡ Some dims → HasSizes dims old.contents → IsSound old
+    → IsClean old
     → PassIsDone old.contents k → DirtiesOnly (IsPage (pass_gate k)) old new → IsSound new
 sound_opening old new dims k stands sizes sound clean p w =
     let few = job_few p.shape old.contents p.job in
     let below = p.below in
-    sound_page (pass_gate k) old new dims (omega (arith, few, below)) (λ e. omega (arith, e)) stands sizes sound w (λ before image was i d c.
+    sound_page (pass_gate k) old new dims (omega (arith, few, below)) (λ e. omega (arith, e)) stands sizes sound w
+    (λ before image was i d c.
     let d' = image_of_clean (pass_gate k) old new dims image clean w i in
     let c' = sound.consistent dims stands dims old.contents stands (image_self old dims sizes) in
-    consistent_kept (λ i. i ≡ pass_gate k) dims old.contents image d' (λ e. omega (arith, e)) (λ e. omega (arith, e)) (λ e. omega (arith, e)) c'
+    consistent_kept (λ i. i ≡ pass_gate k) dims old.contents image d' (λ e. omega (arith, e)) (λ e. omega (arith, e))
+    (λ e. omega (arith, e)) c'
     (λ gate s body j.
     subst (λ (t : Shape). JobStands t image) (load_unique p.shape s (page_at old.contents load_body) p.load body)
     (job_opening p.shape old.contents image k p.job p.now p.below d' p.records)))
@@ -123,11 +126,13 @@ in_body slot a b d = record { blocks = d.blocks; pages = λ k not. d.pages k (λ
 slot_closed : (slot : ℕ) (dims : Dims) (a b : Contents) → DiffersIn (InSlot slot) a b → IsClosedGate (page_at b (slot_gate slot))
     → IsConsistent dims a → IsConsistent dims b
 slot_closed slot dims a b d closed c =
-    consistent_kept (InSlot slot) dims a b d (slot_late slot load_body (omega arith)) (slot_late slot load_gate (omega arith)) (slot_late slot job_gate (omega arith)) c
+    consistent_kept (InSlot slot) dims a b d (slot_late slot load_body (omega arith)) (slot_late slot load_gate (omega arith))
+    (slot_late slot job_gate (omega arith)) c
     (λ gate s body j. job_slot slot s a b j d (λ less opened. absurd (closed opened)))
 
 -- while the open gate of a slot is written over
-pub sound_closing_slot : (old new : RackView) (dims : Dims) (slot : ℕ) → slot < 2 → old.stands ≡ Some dims → HasSizes dims old.contents → IsSound old
+pub sound_closing_slot : (old new : RackView) (dims : Dims) (slot : ℕ) → slot < 2 → old.stands ≡ Some dims → HasSizes dims old.contents
+    → IsSound old
     → IsOpenGate (page_at old.contents (slot_gate slot)) → DirtiesOnly (IsPage (slot_gate slot)) old new → IsSound new
 sound_closing_slot old new dims slot below stands sizes sound gate w =
     sound_page (slot_gate slot) old new dims (omega arith) (λ e. omega (arith, e)) stands sizes sound w (λ before image was i d c.
@@ -137,7 +142,8 @@ sound_closing_slot old new dims slot below stands sizes sound gate w =
     ])
 
 -- while the body of a slot is written whose gate is closed in every image
-pub sound_writing_part : (old new : RackView) (dims : Dims) (slot : ℕ) → slot < 2 → old.stands ≡ Some dims → HasSizes dims old.contents → IsSound old
+pub sound_writing_part : (old new : RackView) (dims : Dims) (slot : ℕ) → slot < 2 → old.stands ≡ Some dims → HasSizes dims old.contents
+    → IsSound old
     → Settled IsClosedGate (slot_gate slot) old → DirtiesOnly (IsPage (slot_body slot)) old new → IsSound new
 sound_writing_part old new dims slot below stands sizes sound shut w =
     sound_page (slot_body slot) old new dims (omega arith) (λ e. omega (arith, e)) stands sizes sound w (λ before image was i d c.
@@ -151,7 +157,8 @@ marked : (slot : ℕ) (first second third : RackView) (dims : Dims) (image : Con
     → DiffersIn (InSlot slot) first.contents image
 marked slot first second third dims image w x d = record {
   blocks = λ disk place. d.blocks disk place ∙ x.contents (block_unit disk place) (λ e. e) ∙ w.contents (block_unit disk place) (λ e. e);
-  pages = λ k not. d.pages k (λ is. not (inr is)) ∙ x.contents (page_unit k) (λ is. not (inl is)) ∙ w.contents (page_unit k) (λ is. not (inr is));
+  pages = λ k not. d.pages k (λ is. not (inr is)) ∙ x.contents (page_unit k) (λ is. not (inl is))
+      ∙ w.contents (page_unit k) (λ is. not (inr is));
 }
 
 -- while the gate of a slot is written whose body is on the disks, as are the loads that it counts
@@ -167,7 +174,8 @@ sound_marking slot pass loads s first second old new dims below fits stands size
     let all = marked slot first second old dims image w x d' in
     let zero = x.contents (page_unit load_body) (λ e. omega (arith, e)) ∙ w.contents (page_unit load_body) (λ e. omega (arith, e)) in
     let c' = sound.consistent dims stands dims old.contents stands (image_self old dims sizes) in
-    consistent_kept (λ k. k ≡ slot_gate slot) dims old.contents image d' (λ e. omega (arith, e)) (λ e. omega (arith, e)) (λ e. omega (arith, e)) c'
+    consistent_kept (λ k. k ≡ slot_gate slot) dims old.contents image d' (λ e. omega (arith, e)) (λ e. omega (arith, e))
+    (λ e. omega (arith, e)) c'
     (λ gate t loaded j.
     subst (λ (u : Shape). JobStands u image) (load_unique s t (page_at old.contents load_body) (zero ∙ p.load) loaded)
     (job_slot slot s first.contents image p.job all (λ less opened. record {
@@ -176,7 +184,8 @@ sound_marking slot pass loads s first second old new dims below fits stands size
       body = record { fits = fits; page_is = d'.pages (slot_body slot) (λ e. omega (arith, e)) ∙ body };
       known = p.known;
       soon = (let now = p.now in omega (arith, now));
-      moved = λ now form is. subst₂ (λ (target input : ℕ → List ℕ). LoadsMoved s form loads target (all_passed (take pass p.job.forms) input))
+      moved = λ now form is. subst₂
+          (λ (target input : ℕ → List ℕ). LoadsMoved s form loads target (all_passed (take pass p.job.forms) input))
           (sym (recs_same (InSlot slot) s (area_after pass) first.contents image all))
           (sym (recs_same (InSlot slot) s Input first.contents image all)) (p.moved form is);
     }))))

@@ -6,7 +6,8 @@ use Rattle.bm_rack.proofs.FrameLemmas.{RaisesCounts-trans, raised-zero}
 use Rattle.bm_control.specs.PageCalls.{MakesPageCalls, ReadsPages}
 
 -- a call that is counted exactly
-pub exact : {tells_stands tells_contents : Bool} (succeeds : Type 0) (p s : ℕ) (old new : RackView) → IsWellFormed tells_stands tells_contents old
+pub exact : {tells_stands tells_contents : Bool} (succeeds : Type 0) (p s : ℕ) (old new : RackView)
+    → IsWellFormed tells_stands tells_contents old
     → RaisesCounts 0 p s old new → MakesPageCalls succeeds p s old new
 exact succeeds p s old new well c =
     let fp = well.pages in
@@ -21,7 +22,8 @@ exact succeeds p s old new well c =
     }
 
 -- a call after one that succeeded
-pub later : {tells_stands tells_contents : Bool} (succeeds : Type 0) (p s p' s' : ℕ) (a b c : RackView) → IsWellFormed tells_stands tells_contents a
+pub later : {tells_stands tells_contents : Bool} (succeeds : Type 0) (p s p' s' : ℕ) (a b c : RackView)
+    → IsWellFormed tells_stands tells_contents a
     → RaisesCounts 0 p s a b → MakesPageCalls succeeds p' s' b c → MakesPageCalls succeeds (p + p') (s + s') a c
 later succeeds p s p' s' a b c well x y =
     let fp = well.pages in
@@ -62,7 +64,8 @@ reads_pages succeeds p most a b c well fewer x y =
     }
 
 -- pages that were read exactly, and pages after them
-pub reads_more : {tells_stands tells_contents : Bool} (p least more most : ℕ) (a b c : RackView) → IsWellFormed tells_stands tells_contents a
+pub reads_more : {tells_stands tells_contents : Bool} (p least more most : ℕ) (a b c : RackView)
+    → IsWellFormed tells_stands tells_contents a
     → p + more ≤ most
     → RaisesCounts 0 p 0 a b → ReadsPages 0 more b c → least ≤ p → ReadsPages least most a c
 reads_more p least more most a b c well fewer x y few =

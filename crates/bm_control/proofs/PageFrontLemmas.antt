@@ -1,6 +1,7 @@
 -- Pages that are filled from their front.
 use Rattle.std.proofs.Common.{◌≡◌, ℕ, ◌+◌, ◌-◌, ◌≤◌, List, ◌++◌, length, take, drop, replicate, sym, ap, ◌∙◌, arith}
-use Rattle.std.proofs.lemmas.List.{length-replicate, drop-replicate, length-append, length-take-le, take-replicate, take-append-drop, drop-drop}
+use Rattle.std.proofs.lemmas.List.{length-replicate, drop-replicate, length-append, length-take-le, take-replicate, take-append-drop}
+use Rattle.std.proofs.lemmas.List.{drop-drop}
 use Rattle.std.proofs.lemmas.List.{length-drop, append-nil}
 use Rattle.std.proofs.lemmas.Slice.{drop-put_mid, take-put_mid}
 use Rattle.std.proofs.Math.Seq.{take-add}
@@ -16,7 +17,8 @@ page_of_front len bytes f =
     sym (take-append-drop len bytes) ∙ ap (λ (x : List ℕ). take len bytes ++ x) (f.zeros ∙ ap (λ (n : ℕ). replicate (512 - n) 0) (sym long))
 
 -- what stands behind a place stands behind a later one
-rest_of_front : (len place : ℕ) (bytes : List ℕ) → IsFront len bytes → len ≤ place → place ≤ 512 → drop place bytes ≡ replicate (512 - place) 0
+rest_of_front : (len place : ℕ) (bytes : List ℕ) → IsFront len bytes → len ≤ place → place ≤ 512
+    → drop place bytes ≡ replicate (512 - place) 0
 rest_of_front len place bytes f more fits =
     let e : place ≡ len + (place - len) = omega arith in
     ap (λ (n : ℕ). drop n bytes) e
@@ -53,7 +55,8 @@ pub front_skip : (len place : ℕ) (bytes : List ℕ) → IsFront len bytes → 
 front_skip len place bytes f more fits = record { within = fits; size = f.size; zeros = rest_of_front len place bytes f more fits }
 
 -- the bytes up to a later place are the front and zeros
-pub skipped : (len place : ℕ) (bytes : List ℕ) → IsFront len bytes → len ≤ place → place ≤ 512 → take place bytes ≡ padded place (take len bytes)
+pub skipped : (len place : ℕ) (bytes : List ℕ) → IsFront len bytes → len ≤ place → place ≤ 512
+    → take place bytes ≡ padded place (take len bytes)
 unfolding padded
 skipped len place bytes f more fits =
     let e : place ≡ len + (place - len) = omega arith in

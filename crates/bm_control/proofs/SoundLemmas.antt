@@ -15,7 +15,8 @@ use Rattle.bm_control.specs.Bodies.{load_page}
 use Rattle.bm_control.specs.Pages.{load_body, load_gate, job_gate, HasOpenLoad, HasOpenJob, HasClosedJob}
 use Rattle.bm_control.specs.Consistent.{IsConsistent}
 use Rattle.bm_control.specs.Sound.{IsSound}
-use Rattle.bm_control.proofs.ImageLemmas.{Settled, settled_in_image, image_synced, image_state, image_back, image_same, image_of_clean, DiffersAt}
+use Rattle.bm_control.proofs.ImageLemmas.{Settled, settled_in_image, image_synced, image_state, image_back, image_same, image_of_clean}
+use Rattle.bm_control.proofs.ImageLemmas.{DiffersAt}
 
 -- two sizes of what stands are one
 pub one_size : {a b : Dims} {s : Option Dims} → s ≡ Some a → s ≡ Some b → a ≡ b
@@ -38,7 +39,8 @@ sound_closed v one three = record {
 }
 
 -- with the load body on the disks and no job, whatever stands on the load gate
-pub sound_loaded : (v : RackView) (s : Shape) → v.stands ≡ Some (dims_of s) → Settled (λ p. p ≡ load_page s) load_body v → Settled IsClosedGate job_gate v
+pub sound_loaded : (v : RackView) (s : Shape) → v.stands ≡ Some (dims_of s) → Settled (λ p. p ≡ load_page s) load_body v
+    → Settled IsClosedGate job_gate v
     → ((u : RackUnit) → IsInputUnit (dims_of s) u → v.dirty u ≡ false) → IsSound v
 sound_loaded v s stands body three clean = record {
   consistent = λ dims is dims' image is' i. record {
@@ -66,7 +68,8 @@ sound_page page old new dims below other stands sizes sound w keeps = record {
       let same' : d' ≡ dims = one_size is' (w.stands ∙ stands) in
       let i' = subst (λ x. IsImage x new image) same' i in
       let back = image_back page old new dims image below sizes w i' in
-      subst (λ x. IsConsistent x image) (sym same) (keeps back.0 image back.1 i' back.2 (sound.consistent dims stands dims back.0 stands back.1));
+      subst (λ x. IsConsistent x image) (sym same)
+      (keeps back.0 image back.1 i' back.2 (sound.consistent dims stands dims back.0 stands back.1));
   input = λ d image is i gate u input.
       let same : d ≡ dims = one_size is (w.stands ∙ stands) in
       let i' = subst (λ x. IsImage x new image) same i in
@@ -100,7 +103,8 @@ sound_closing_load old new dims stands sound clean gate shut w = record {
       let i' = subst (λ x. IsImage x new image) same' i in
       let three = (image_of_clean load_gate old new dims image clean w i').pages job_gate (λ e. omega (arith, e)) in
       subst (λ x. IsConsistent x image) (sym same) (record {
-        loaded = λ opened. (sound.consistent dims stands dims image stands (image_same load_gate old new dims image w i' (opened ∙ sym gate))).loaded opened;
+        loaded = λ opened. (sound.consistent dims stands dims image stands
+            (image_same load_gate old new dims image w i' (opened ∙ sym gate))).loaded opened;
         after_load = λ opened. absurd (shut (sym three ∙ opened));
         job = λ opened. absurd (shut (sym three ∙ opened));
       });
@@ -123,7 +127,8 @@ sound_same old new s sound = record {
   consistent = λ dims is dims' image is' i. sound.consistent dims (sym s.stands ∙ is) dims' image (sym s.stands ∙ is')
       (image_state old new dims' image s i);
   input = λ dims image is i gate u input.
-      ap (λ (f : RackUnit → Bool). f u) s.dirty ∙ sound.input dims image (sym s.stands ∙ is) (image_state old new dims image s i) gate u input;
+      ap (λ (f : RackUnit → Bool). f u) s.dirty ∙ sound.input dims image (sym s.stands ∙ is) (image_state old new dims image s i) gate u
+      input;
 }
 
 -- What a stop leaves of a sound rack is sound: its contents are one of the images, and nothing is dirty.

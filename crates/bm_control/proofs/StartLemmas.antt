@@ -1,5 +1,6 @@
 -- A rack while a job is opened.
-use Rattle.std.proofs.Common.{◌≡◌, ◌≢◌, ◌⊎◌, inl, inr, ℕ, ◌+◌, ◌*◌, ◌<◌, ◌≤◌, false, List, length, slice_get, get_or, Some, refl, sym, ◌∙◌, ap}
+use Rattle.std.proofs.Common.{◌≡◌, ◌≢◌, ◌⊎◌, inl, inr, ℕ, ◌+◌, ◌*◌, ◌<◌, ◌≤◌, false, List, length, slice_get, get_or, Some, refl, sym, ◌∙◌}
+use Rattle.std.proofs.Common.{ap}
 use Rattle.std.proofs.Common.{subst, arith}
 use Rattle.std.specs.List.{slice_index_or}
 use Rattle.std.proofs.lemmas.Bool.{cases_eq}
@@ -19,10 +20,12 @@ use Rattle.bm_forms.specs.Plan.{DoJob, all_passed}
 use Rattle.bm_control.specs.Bodies.{padded, load_page, IsJobBody, IsPassBody}
 use Rattle.bm_control.specs.Consistent.{input_of, JobStands}
 use Rattle.bm_control.specs.Moments.{PassesAreWritten, JobIsWritten}
-use Rattle.bm_control.specs.Pages.{load_gate, load_body, job_body, job_gate, pass_body, pass_gate, slot_gate, HasOpenLoad, HasClosedJob, HasLoadBody, HasJobBody, IsZeroPage}
+use Rattle.bm_control.specs.Pages.{load_gate, load_body, job_body, job_gate, pass_body, pass_gate, slot_gate, HasOpenLoad, HasClosedJob}
+use Rattle.bm_control.specs.Pages.{HasLoadBody, HasJobBody, IsZeroPage}
 use Rattle.bm_control.specs.Sound.{IsSound}
 use Rattle.bm_control.proofs.EqualLemmas.{some_injective}
-use Rattle.bm_control.proofs.ImageLemmas.{zeros_closed, Settled, settled_within, never_settled, open_settled, closed_settled, length-open_gate, image_self}
+use Rattle.bm_control.proofs.ImageLemmas.{zeros_closed, Settled, settled_within, never_settled, open_settled, closed_settled}
+use Rattle.bm_control.proofs.ImageLemmas.{length-open_gate, image_self}
 use Rattle.bm_control.proofs.ImageLemmas.{image_of_clean, DiffersAt}
 use Rattle.bm_control.proofs.SoundLemmas.{sound_loaded, sound_page}
 use Rattle.bm_control.proofs.MomentLemmas.{load_unique}
@@ -88,7 +91,8 @@ passes_kept s forms k old new few w before = record {
 
 -- all pages of the job
 pub job_written : (s : Shape) (job : Job) (forms : List PassForm) (every : ℕ) (v : Contents) → HasJobBody s v job (length forms) every
-    → PassesAreWritten s forms (length forms) v → (every < loads_of s → IsZeroPage (page_at v (slot_gate 0)) × IsZeroPage (page_at v (slot_gate 1)))
+    → PassesAreWritten s forms (length forms) v
+    → (every < loads_of s → IsZeroPage (page_at v (slot_gate 0)) × IsZeroPage (page_at v (slot_gate 1)))
     → JobIsWritten s job forms every v
 job_written s job forms every v body passes slots = record {
   body = body;
@@ -101,11 +105,14 @@ job_written s job forms every v body passes slots = record {
 }
 
 -- are as before where its gate is changed
-pub job_written_kept : (s : Shape) (job : Job) (forms : List PassForm) (every : ℕ) (old new : RackView) → DirtiesOnly (IsPage job_gate) old new
+pub job_written_kept : (s : Shape) (job : Job) (forms : List PassForm) (every : ℕ) (old new : RackView)
+    → DirtiesOnly (IsPage job_gate) old new
     → JobIsWritten s job forms every old.contents → JobIsWritten s job forms every new.contents
 job_written_kept s job forms every old new w j = record {
-  body = subst (λ (p : List ℕ). IsJobBody s p job (length forms) every) (sym (w.contents (page_unit job_body) (λ e. omega (arith, e)))) j.body;
-  bodies = λ k pass there. subst (λ (p : List ℕ). IsPassBody s k p pass) (sym (w.contents (page_unit (pass_body k)) (λ e. omega (arith, e))))
+  body = subst (λ (p : List ℕ). IsJobBody s p job (length forms) every) (sym (w.contents (page_unit job_body) (λ e. omega (arith, e))))
+      j.body;
+  bodies = λ k pass there. subst (λ (p : List ℕ). IsPassBody s k p pass)
+      (sym (w.contents (page_unit (pass_body k)) (λ e. omega (arith, e))))
       (j.bodies k pass there);
   gates = λ k h. subst IsZeroPage (sym (w.contents (page_unit (pass_gate k)) (λ e. omega (arith, e)))) (j.gates k h);
   slots = λ less slot h. subst IsZeroPage (sym (w.contents (page_unit (slot_gate slot)) (λ e. omega (arith, e)))) (j.slots less slot h);
@@ -140,7 +147,8 @@ pub loaded_start : (s : Shape) (v : RackView) → v.stands ≡ Some (dims_of s) 
     → InEveryImage HasOpenLoad v → InEveryImage HasClosedJob v → HasLoadBody s v.contents
     → IsLoadedRack s v
 loaded_start s v stands sizes sound opened closed body =
-    let some = never_settled (λ p. (t : Shape) × (p ≡ load_page t)) v (dims_of s) load_body open_gate (omega arith) length-open_gate stands sizes gate_no_body
+    let some = never_settled (λ p. (t : Shape) × (p ≡ load_page t)) v (dims_of s) load_body open_gate (omega arith) length-open_gate stands
+    sizes gate_no_body
     (λ dims image is i. (let l = (sound.consistent dims is dims image is i).loaded (opened dims image is i) in (l.shape, l.body))) in
     record {
       stands = stands;
@@ -181,7 +189,8 @@ loaded_within passes parts s old new w r = record {
 }
 
 -- the job gate alone
-pub job_gate_within : (passes : ℕ) (parts : Type 0) (old new : RackView) → DirtiesOnly (IsJobPage passes parts) old new → Settled IsClosedGate job_gate old
+pub job_gate_within : (passes : ℕ) (parts : Type 0) (old new : RackView) → DirtiesOnly (IsJobPage passes parts) old new
+    → Settled IsClosedGate job_gate old
     → Settled IsClosedGate job_gate new
 job_gate_within passes parts old new w r = settled_within IsClosedGate (IsJobPage passes parts) job_gate old new w
     (job_page_apart passes job_gate parts (omega arith) (λ e. omega (arith, e))) r
@@ -191,7 +200,8 @@ pub loaded_sound : (s : Shape) (v : RackView) → IsLoadedRack s v → IsSound v
 loaded_sound s v r = sound_loaded v s r.stands r.body_stands r.no_job r.input
 
 -- the job stands where its pages do and its gate alone is changed
-started : (s : Shape) (job : Job) (forms : List PassForm) (every : ℕ) (a b : Contents) → DoJob forms s.n job → JobIsWritten s job forms every a
+started : (s : Shape) (job : Job) (forms : List PassForm) (every : ℕ) (a b : Contents) → DoJob forms s.n job
+    → JobIsWritten s job forms every a
     → DiffersAt 3 a b → JobStands s b
 unfolding all_passed
 started s job forms every a b does j d = record {
@@ -210,7 +220,8 @@ started s job forms every a b does j d = record {
     closed = λ k from h opened. zeros_closed _ (j.gates k h) (sym (d.pages (pass_gate k) (λ e. omega (arith, e))) ∙ opened);
   };
   work = λ x h. refl;
-  slots = λ less slot h opened. absurd (zeros_closed _ (j.slots less slot h) (sym (d.pages (slot_gate slot) (λ e. omega (arith, e))) ∙ opened));
+  slots = λ less slot h opened. absurd (zeros_closed _ (j.slots less slot h) (sym (d.pages (slot_gate slot) (λ e. omega (arith, e)))
+      ∙ opened));
 }
 
 -- while the gate of a job is written whose pages are on the disks
@@ -218,7 +229,8 @@ pub sound_started : (s : Shape) (job : Job) (forms : List PassForm) (every : ℕ
     → IsClean old → IsLoadedRack s old
     → DoJob forms s.n job → JobIsWritten s job forms every old.contents → DirtiesOnly (IsPage job_gate) old new → IsSound new
 sound_started s job forms every old new sizes clean r does j w =
-    sound_page job_gate old new (dims_of s) (omega arith) (λ e. omega (arith, e)) r.stands sizes (loaded_sound s old r) w (λ before image was i d c.
+    sound_page job_gate old new (dims_of s) (omega arith) (λ e. omega (arith, e)) r.stands sizes (loaded_sound s old r) w
+    (λ before image was i d c.
     let d' = image_of_clean job_gate old new (dims_of s) image clean w i in
     let zero = d'.pages load_body (λ e. omega (arith, e)) ∙ r.body_stands.holds in
     record {

@@ -1,5 +1,6 @@
 -- How many pages are read of the control file, step by step.
-use Rattle.std.proofs.Common.{Ok, Err, ◌≡◌, ◌↔◌, ℕ, ◌+◌, ◌*◌, ◌<◌, ◌≤◌, List, Option, Some, Result, IfOk, Bool, refl, sym, ◌∙◌, ap, subst, arith}
+use Rattle.std.proofs.Common.{Ok, Err, ◌≡◌, ◌↔◌, ℕ, ◌+◌, ◌*◌, ◌<◌, ◌≤◌, List, Option, Some, Result, IfOk, Bool, refl, sym, ◌∙◌, ap, subst}
+use Rattle.std.proofs.Common.{arith}
 use Rattle.bm_base.specs.declared.shape.Shape.{Shape}
 use Rattle.bm_base.specs.Contents.{Contents, page_at}
 use Rattle.bm_rack.specs.RackView.{RackView, IsWellFormed}
@@ -20,10 +21,12 @@ use Rattle.bm_control.proofs.PageCallLemmas.{reads_more}
 
 -- fewer pages than the bound
 pub reads_fewer : (most more : ℕ) (old new : RackView) → most ≤ more → ReadsPages 0 most old new → ReadsPages 0 more old new
-reads_fewer most more old new less x = record { moves = x.moves; syncs = x.syncs; low = x.low; high = (let h = x.high in omega (arith, h, less)) }
+reads_fewer most more old new less x = record
+    { moves = x.moves; syncs = x.syncs; low = x.low; high = (let h = x.high in omega (arith, h, less)) }
 
 -- a number of pages within the bound
-pub reads_within : {tells_stands tells_contents : Bool} (n most : ℕ) (old new : RackView) → IsWellFormed tells_stands tells_contents old → n ≤ most
+pub reads_within : {tells_stands tells_contents : Bool} (n most : ℕ) (old new : RackView) → IsWellFormed tells_stands tells_contents old
+    → n ≤ most
     → RaisesCounts 0 n 0 old new
     → ReadsPages 0 most old new
 reads_within n most old new well less x =
@@ -37,7 +40,8 @@ reads_within n most old new well less x =
 
 -- the pages of a job whose body was found
 pub job_pages : (s : Shape) (v : Contents) (page : List ℕ) (found : Job × ℕ × ℕ) (old new : RackView) → page ≡ page_at v job_body
-    → ((job : Job) (passes every : ℕ) → ◌≡◌ {A = Option (Job × ℕ × ℕ)} (Some found) (Some (job, passes, every)) ↔ IsJobBody s page job passes every)
+    → ((job : Job) (passes every : ℕ) → ◌≡◌ {A = Option (Job × ℕ × ℕ)} (Some found) (Some (job, passes, every)) ↔ IsJobBody s page job
+    passes every)
     → ReadsPages 0 (5 + 2 * found.1) old new → (found.2 ≡ loads_of s → ReadsPages 0 (1 + 2 * found.1) old new)
     → (found.2 < loads_of s → (one two : ℕ) → SlotReads v 0 one → SlotReads v 1 two → ReadsPages 0 (1 + 2 * found.1 + (one + two)) old new)
     → JobPages s v old new
@@ -70,19 +74,22 @@ first_pages v old new opened x = record {
 }
 
 -- and those of an open job after them
-pub job_state_pages : {tells_stands tells_contents : Bool} (s : Shape) (v : Contents) (a b c : RackView) → IsWellFormed tells_stands tells_contents a
+pub job_state_pages : {tells_stands tells_contents : Bool} (s : Shape) (v : Contents) (a b c : RackView)
+    → IsWellFormed tells_stands tells_contents a
     → IsJobOpen s v → ((t : Shape) → HasLoadBody t v → s ≡ t) → RaisesCounts 0 3 0 a b → JobPages s v b c → StatePages v a c
 job_state_pages s v a b c well opened only three pages = record {
   unloaded = λ shut. absurd (shut opened.load_gate);
   idle = λ shut. absurd (shut opened.job_gate);
-  bare = λ none. reads_more 3 0 1 4 a b c well (omega arith) three (pages.bare (λ job passes every. none s job passes every opened.load_body))
+  bare = λ none. reads_more 3 0 1 4 a b c well (omega arith) three
+      (pages.bare (λ job passes every. none s job passes every opened.load_body))
       (omega arith);
   most = λ t job passes every load body. reads_more 3 0 (5 + 2 * passes) (8 + 2 * passes) a b c well (omega arith) three
       (pages.most job passes every (subst (λ (r : Shape). HasJobBody r v job passes every) (sym (only t load)) body)) (omega arith);
   whole = λ t job passes every load body all. reads_more 3 0 (1 + 2 * passes) (4 + 2 * passes) a b c well (omega arith) three
       (pages.whole job passes every (subst (λ (r : Shape). HasJobBody r v job passes every) (sym (only t load)) body)
       (subst (λ (r : Shape). every ≡ loads_of r) (sym (only t load)) all)) (omega arith);
-  parts = λ t job passes every one two load body less first second. reads_more 3 0 (1 + 2 * passes + (one + two)) (4 + 2 * passes + (one + two))
+  parts = λ t job passes every one two load body less first second. reads_more 3 0 (1 + 2 * passes + (one + two))
+      (4 + 2 * passes + (one + two))
       a b c well (omega arith) three
       (pages.parts job passes every one two (subst (λ (r : Shape). HasJobBody r v job passes every) (sym (only t load)) body)
       (subst (λ (r : Shape). every < loads_of r) (sym (only t load)) less) first second) (omega arith);

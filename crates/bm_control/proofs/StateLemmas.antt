@@ -1,5 +1,6 @@
 -- What the control file tells, page by page.
-use Rattle.std.proofs.Common.{Ok, Err, ◌≡◌, ◌⊎◌, inl, inr, ⊎_elim, ℕ, ◌+◌, ◌<◌, ◌≤◌, List, Option, Some, None, IfSome, Result, refl, sym, ◌∙◌, ap}
+use Rattle.std.proofs.Common.{Ok, Err, ◌≡◌, ◌⊎◌, inl, inr, ⊎_elim, ℕ, ◌+◌, ◌<◌, ◌≤◌, List, Option, Some, None, IfSome, Result, refl, sym}
+use Rattle.std.proofs.Common.{◌∙◌, ap}
 use Rattle.std.proofs.Common.{subst, arith}
 use Rattle.std.proofs.lemmas.Bool.{cases_lt, cases_eq}
 use Rattle.bm_base.specs.declared.shape.Shape.{Shape}
@@ -15,7 +16,8 @@ use Rattle.bm_control.specs.Bodies.{IsPartBody}
 use Rattle.bm_control.specs.Pages.{pass_gate, slot_body, slot_gate, HasJobBody}
 use Rattle.bm_control.specs.Consistent.{GatesAre}
 use Rattle.bm_control.specs.Progress.{Counts}
-use Rattle.bm_control.specs.State.{HasPassBody, PassesStand, PassRead, PassAnswer, PassesAnswer, SlotRead, SlotAnswer, SlotsAnswer, SlotsRead}
+use Rattle.bm_control.specs.State.{HasPassBody, PassesStand, PassRead, PassAnswer, PassesAnswer, SlotRead, SlotAnswer, SlotsAnswer}
+use Rattle.bm_control.specs.State.{SlotsRead}
 use Rattle.bm_control.specs.State.{IsGoodSlot, CountedOf, CountFits, PartFits, IsWorking, IsJobOpen, JobAnswer, ProgressAnswer, StateAnswer}
 use Rattle.std.proofs.Math.Path.{subst₂}
 use Rattle.bm_control.proofs.BodyLemmas.{part_numbers}
@@ -29,7 +31,8 @@ passes_none s v = record {
 }
 
 -- one more
-pub passes_more : (s : Shape) (v : Contents) (k done next : ℕ) → PassesStand s v k done → PassRead s v k done next → PassesStand s v (k + 1) next
+pub passes_more : (s : Shape) (v : Contents) (k done next : ℕ) → PassesStand s v k done → PassRead s v k done next
+    → PassesStand s v (k + 1) next
 passes_more s v k done next before read = record {
   bodies = λ i h. elim (cases_eq i k) [
     | inl same ↦ subst (HasPassBody s v) (sym same) read.body
@@ -65,7 +68,8 @@ passes_more s v k done next before read = record {
 pub passes_bad : (s : Shape) (v : Contents) (passes k done : ℕ) (e : ControlError) → k < passes → PassesStand s v k done
     → PassAnswer s v k done (Err e) → PassesAnswer s v passes (Err e)
 passes_bad s v passes k done Failed below before answer = tt
-passes_bad s v passes k done (BadPage page) below before answer = record { k = k; done = done; below = below; before = before; bad = answer }
+passes_bad s v passes k done (BadPage page) below before answer = record
+    { k = k; done = done; below = below; before = before; bad = answer }
 
 -- the first slot is wrong
 pub slots_first_bad : (s : Shape) (v : Contents) (passes done every : ℕ) (e : ControlError) → every < loads_of s
@@ -74,7 +78,8 @@ slots_first_bad s v passes done every Failed less answer = tt
 slots_first_bad s v passes done every (BadPage page) less answer = (less, inl (answer.1, answer.0))
 
 -- the second one is
-pub slots_second_bad : (s : Shape) (v : Contents) (passes done every : ℕ) (e : ControlError) → every < loads_of s → IsGoodSlot s v passes done 0
+pub slots_second_bad : (s : Shape) (v : Contents) (passes done every : ℕ) (e : ControlError) → every < loads_of s
+    → IsGoodSlot s v passes done 0
     → SlotAnswer s v passes done 1 (Err e) → SlotsAnswer s v passes done every (Err e)
 slots_second_bad s v passes done every Failed less first answer = tt
 slots_second_bad s v passes done every (BadPage page) less first answer = (less, inr (first, answer.0, answer.1))
@@ -123,7 +128,8 @@ counted_both s v passes done every part slot one two less first second of = reco
 }
   where
     slot_cases : (slot ≡ 2) ⊎ ((slot ≡ 0) ⊎ (slot ≡ 1))
-    slot_cases = ⊎_elim (λ (p : slot < 2). inr (two_cases slot p)) (λ (p : 2 ≤ slot). inl (let r = of.range in omega (arith, r))) (cases_lt slot 2)
+    slot_cases = ⊎_elim (λ (p : slot < 2). inr (two_cases slot p)) (λ (p : 2 ≤ slot). inl (let r = of.range in omega (arith, r)))
+        (cases_lt slot 2)
 
     most_first : (loads : ℕ) → one ≡ Some loads → (slot < 2) × (loads ≤ part)
     most_first loads is = elim slot_cases [
@@ -168,18 +174,22 @@ part_unique s page p l p' l' one two =
     (sym x.pass_is ∙ y.pass_is, sym x.loads_are ∙ y.loads_are)
 
 -- an open slot whose body names a pass that may be under way
-slot_good : (s : Shape) (v : Contents) (passes done slot pass loads : ℕ) → IsPartBody s (page_at v (slot_body slot)) pass loads → pass ≤ passes
+slot_good : (s : Shape) (v : Contents) (passes done slot pass loads : ℕ) → IsPartBody s (page_at v (slot_body slot)) pass loads
+    → pass ≤ passes
     → pass ≤ done + 1
     → IsGoodSlot s v passes done slot
-slot_good s v passes done slot pass loads body known soon = λ _. record { pass = pass; loads = loads; body = body; known = known; soon = soon }
+slot_good s v passes done slot pass loads body known soon = λ _. record
+    { pass = pass; loads = loads; body = body; known = known; soon = soon }
 
-pub slot_old : (s : Shape) (v : Contents) (passes done slot pass loads : ℕ) → IsPartBody s (page_at v (slot_body slot)) pass loads → pass ≤ passes
+pub slot_old : (s : Shape) (v : Contents) (passes done slot pass loads : ℕ) → IsPartBody s (page_at v (slot_body slot)) pass loads
+    → pass ≤ passes
     → pass ≤ done
     → SlotRead s v passes done slot None
 slot_old s v passes done slot pass loads body known old = record {
   good = slot_good s v passes done slot pass loads body known (omega arith);
   counts = λ l is. absurd (none_some l is);
-  only = λ l c. (let e = (part_unique s (page_at v (slot_body slot)) pass loads (done + 1) l body c.body).0 in absurd (omega (arith, e, old)));
+  only = λ l c. (let e = (part_unique s (page_at v (slot_body slot)) pass loads (done + 1) l body c.body).0 in absurd
+      (omega (arith, e, old)));
 }
 
 pub slot_now : (s : Shape) (v : Contents) (passes done slot pass loads : ℕ) → IsOpenGate (page_at v (slot_gate slot))

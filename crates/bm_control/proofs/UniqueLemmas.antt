@@ -17,10 +17,13 @@ use Rattle.bm_gf2.proofs.MapLemmas.{matrix_equal, affine_equal}
 use Rattle.bm_control.proofs.JobBodyLemmas.{job_numbers, version_whole, version_parts, named_parts, pass_low, pass_map}
 
 -- the passes and the loads of a job's body
-pub passes_unique : (s : Shape) (page : List ℕ) (job other : Job) (p q every more : ℕ) → IsJobBody s page job p every → IsJobBody s page other q more → p ≡ q
-passes_unique s page job other p q every more one two = sym (job_numbers s page job p every one).passes_are ∙ (job_numbers s page other q more two).passes_are
+pub passes_unique : (s : Shape) (page : List ℕ) (job other : Job) (p q every more : ℕ) → IsJobBody s page job p every
+    → IsJobBody s page other q more → p ≡ q
+passes_unique s page job other p q every more one two = sym (job_numbers s page job p every one).passes_are
+    ∙ (job_numbers s page other q more two).passes_are
 
-pub every_unique : (s : Shape) (page : List ℕ) (job other : Job) (p q every more : ℕ) → IsJobBody s page job p every → IsJobBody s page other q more → every ≡ more
+pub every_unique : (s : Shape) (page : List ℕ) (job other : Job) (p q every more : ℕ) → IsJobBody s page job p every
+    → IsJobBody s page other q more → every ≡ more
 every_unique s page job other p q every more one two =
     let x = job_numbers s page job p every one in
     let y = job_numbers s page other q more two in
@@ -42,8 +45,10 @@ pub done_unique : (v : Contents) (passes done other : ℕ) → GatesAre v passes
 done_unique v passes done other one two = elim (cases_eq done other) [
   | inl same ↦ same
   | inr apart ↦ ⊎_elim
-      (λ (less : done < other). let few = two.few in absurd (one.closed done (omega arith) (omega (arith, few, less)) (two.opened done less)))
-      (λ (more : other ≤ done). let few = one.few in absurd (two.closed other (omega arith) (omega (arith, few, more, apart)) (one.opened other (omega (arith, more, apart)))))
+      (λ (less : done < other). let few = two.few in absurd
+      (one.closed done (omega arith) (omega (arith, few, less)) (two.opened done less)))
+      (λ (more : other ≤ done). let few = one.few in absurd
+      (two.closed other (omega arith) (omega (arith, few, more, apart)) (one.opened other (omega (arith, more, apart)))))
       (cases_lt done other)
 ]
 
@@ -65,7 +70,8 @@ map_unique head rest page f g k l long wide bits one two =
     affine_equal f g (matrix_equal f.a g.a bits columns) constant
 
 -- two passes of one body have one map and one number of butterflies
-pub pass_map_unique : (s : Shape) (k : ℕ) (page : List ℕ) (p q : PassForm) → IsPassBody s k page p → IsPassBody s k page q → p.map.map ≡ q.map.map
+pub pass_map_unique : (s : Shape) (k : ℕ) (page : List ℕ) (p q : PassForm) → IsPassBody s k page p → IsPassBody s k page q
+    → p.map.map ≡ q.map.map
 pass_map_unique s k page p q one two =
     let x = pass_map s k page p one in
     let y = pass_map s k page q two in
@@ -78,8 +84,12 @@ pass_low_unique s k page p q one two = sym (pass_low s k page p one.page_is) ∙
 job_map_of : (s : Shape) (page : List ℕ) (f : Affine) (passes every : ℕ) → IsJobBody s page (Permute f) passes every
     → (head : List ℕ) × (length head ≡ 16) × (page ≡ map_page head (map_bytes f) (named_loads s every))
 unfolding job_page
-job_map_of s page f passes every body =
-    (body_head (codes "BMMCTASK") (job_version s every) 1 s.n passes, length-body_head (codes "BMMCTASK") (job_version s every) 1 s.n passes refl, body.page_is)
+job_map_of s page f passes every body = (
+  body_head (codes "BMMCTASK") (job_version s every) 1 s.n passes,
+  length-body_head (codes "BMMCTASK") (job_version s every) 1 s.n passes
+      refl,
+  body.page_is,
+)
 
 -- the job of a body, whatever its shape
 pub job_unique : (s t : Shape) (page : List ℕ) (job other : Job) (p q every more : ℕ) → IsJobBody s page job p every
@@ -92,6 +102,8 @@ job_unique s t page (Permute f) (Permute g) p q every more one two =
     (one.fits.fits.0 ∙ bits ∙ sym two.fits.fits.0) x.2 y.2)
 job_unique s t page Walsh Walsh p q every more one two = refl
 job_unique s t page (Permute f) Walsh p q every more one two =
-    absurd (let a = (job_numbers s page (Permute f) p every one).kind in let b = (job_numbers t page Walsh q more two).kind in omega (arith, a, b))
+    absurd (let a = (job_numbers s page (Permute f) p every one).kind in let b = (job_numbers t page Walsh q more two).kind in omega
+    (arith, a, b))
 job_unique s t page Walsh (Permute g) p q every more one two =
-    absurd (let a = (job_numbers s page Walsh p every one).kind in let b = (job_numbers t page (Permute g) q more two).kind in omega (arith, a, b))
+    absurd (let a = (job_numbers s page Walsh p every one).kind in let b = (job_numbers t page (Permute g) q more two).kind in omega
+    (arith, a, b))

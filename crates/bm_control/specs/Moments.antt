@@ -23,7 +23,8 @@ pub record PassIsDone (v : Contents) (k : ℕ) : Type 0 where
   pub below : k < length job.forms
   pub records : SameRecords (2 ^ shape.n) (record_at v shape (area_after (k + 1))) (all_passed (take (k + 1) job.forms) (input_of v shape))
 
--- A job with slots is open in these contents, and the first `loads` loads of this pass, which is the one under way, are where they are to be.
+-- A job with slots is open in these contents, and the first `loads` loads of this pass, which is the one under way, are where they are to
+-- be.
 pub record PartIsMoved (s : Shape) (v : Contents) (pass loads : ℕ) : Type 0 where
   pub load : HasLoadBody s v
   pub gate : HasOpenJob v
@@ -38,7 +39,8 @@ pub record PartIsMoved (s : Shape) (v : Contents) (pass loads : ℕ) : Type 0 wh
 abbrev pub IsCleanPage : ℕ → RackView → Type 0
 IsCleanPage page v = v.dirty (page_unit page) ≡ false
 
--- The pages of a new job are written: its body, the body of each pass, and zeros on the gates of its passes and, where it has slots, of those.
+-- The pages of a new job are written: its body, the body of each pass, and zeros on the gates of its passes and, where it has slots, of
+-- those.
 pub record JobIsWritten (s : Shape) (job : Job) (forms : List PassForm) (every : ℕ) (v : Contents) : Type 0 where
   pub body : HasJobBody s v job (length forms) every
   pub bodies : BodiesAre s v forms

@@ -38,9 +38,11 @@ abbrev pub SlotCalls : Contents → ℕ → SlateState → RackView → RackView
 SlotCalls v before Closed old new = Unit {0}
 SlotCalls v before (Loaded s) old new = Unit {0}
 SlotCalls v before (Working s job passes done every part slot) old new =
-    every < loads_of s → (one two : ℕ) → SlotReads v 0 one → SlotReads v 1 two → RaisesCounts 0 (before + 2 * passes + (one + two)) 0 old new
+    every < loads_of s → (one two : ℕ) → SlotReads v 0 one → SlotReads v 1 two
+    → RaisesCounts 0 (before + 2 * passes + (one + two)) 0 old new
 
--- The most pages that are read of an open job, told or refused, by the job that the body names, and by its slots' gates. Its shape is loaded.
+-- The most pages that are read of an open job, told or refused, by the job that the body names, and by its slots' gates. Its shape is
+-- loaded.
 pub record JobPages (s : Shape) (v : Contents) (old new : RackView) : Type 0 where
   pub bare : ((job : Job) (passes every : ℕ) → ¬ HasJobBody s v job passes every) → ReadsPages 0 1 old new
   pub most : (job : Job) (passes every : ℕ) → HasJobBody s v job passes every → ReadsPages 0 (5 + 2 * passes) old new

@@ -1,5 +1,6 @@
 -- From a scan of all numbers to the answer, and from a map to Ok.
-use Rattle.std.proofs.Common.{◌≡◌, ◌≢◌, ℕ, ◌^◌, ◌<◌, ◌≤◌, Option, Some, None, Result, Ok, Err, IsOk, bit_xor, inl, inr, sym, ap, subst, ◌∙◌, arith, refl}
+use Rattle.std.proofs.Common.{◌≡◌, ◌≢◌, ℕ, ◌^◌, ◌<◌, ◌≤◌, Option, Some, None, Result, Ok, Err, IsOk, bit_xor, inl, inr, sym, ap, subst, ◌∙◌}
+use Rattle.std.proofs.Common.{arith, refl}
 use Rattle.std.specs.Int.Bits.{xor_zero_r}
 use Rattle.std.proofs.lemmas.Nat.{pow_pos, xor_comm, xor_lt}
 use Rattle.std.proofs.lemmas.Bool.{cases_lt}

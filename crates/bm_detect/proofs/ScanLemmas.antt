@@ -1,5 +1,6 @@
 -- One number more of a scan.
-use Rattle.std.proofs.Common.{◌≡◌, ◌≢◌, ℕ, ◌+◌, ◌*◌, ◌^◌, ◌<◌, ◌≤◌, false, Option, Some, None, bit_xor, inl, inr, sym, ap, subst, ◌∙◌, arith}
+use Rattle.std.proofs.Common.{◌≡◌, ◌≢◌, ℕ, ◌+◌, ◌*◌, ◌^◌, ◌<◌, ◌≤◌, false, Option, Some, None, bit_xor, inl, inr, sym, ap, subst, ◌∙◌}
+use Rattle.std.proofs.Common.{arith}
 use Rattle.std.specs.Int.Bits.{xor_zero_r}
 use Rattle.std.proofs.lemmas.Nat.{pow_pos, pow-add, xor_comm}
 use Rattle.std.proofs.lemmas.Bool.{cases_lt, false≢true}
@@ -71,7 +72,8 @@ met_more k =
     omega arith
 
 -- one column more
-pub columns_more : (k : ℕ) (old new wanted : ℕ → ℕ) → ((i : ℕ) → i < k → old i ≡ wanted i) → ((i : ℕ) → i ≢ k → new i ≡ old i) → new k ≡ wanted k
+pub columns_more : (k : ℕ) (old new wanted : ℕ → ℕ) → ((i : ℕ) → i < k → old i ≡ wanted i) → ((i : ℕ) → i ≢ k → new i ≡ old i)
+    → new k ≡ wanted k
     → (i : ℕ) → i < k + 1 → new i ≡ wanted i
 columns_more k old new wanted before others changed i l = elim (cases_lt i k) [
   | inl below ↦ others i (λ e. absurd (omega arith)) ∙ before i below

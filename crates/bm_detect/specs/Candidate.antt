@@ -1,4 +1,5 @@
--- The numbers of the input, and the one map that they may be. A list of N numbers is a function of the address, of which the values below N count.
+-- The numbers of the input, and the one map that they may be. A list of N numbers is a function of the address, of which the values below N
+-- count.
 use Rattle.std.specs.Prelude.{ℕ, ◌≡◌, ◌<◌, ◌^◌, bit_xor}
 use Rattle.bm_base.specs.declared.shape.Shape.{Shape}
 use Rattle.bm_base.specs.declared.area.Area.TheVariants.{Input}
@@ -13,7 +14,8 @@ use Rattle.bm_gf2.specs.Affine.{affine_image}
 abbrev pub input_number : Contents → Shape → ℕ → ℕ
 input_number contents s x = number_in (record_at contents s Input x)
 
--- The list is affine by the map: number x is the map's value at x, for each address x of n bits. Columns and constant of a map of n bits have n bits.
+-- The list is affine by the map: number x is the map's value at x, for each address x of n bits. Columns and constant of a map of n bits
+-- have n bits.
 pub record IsAffineBy (n : ℕ) (ys : ℕ → ℕ) (f : Affine) : Type 0 where
   pub size : f.a.n ≡ n
   pub values : (x : ℕ) → x < 2 ^ n → ys x ≡ affine_image f x

@@ -1,5 +1,6 @@
 -- A job that is looked at.
-use Rattle.std.proofs.Common.{Ok, Err, ◌≡◌, ℕ, ◌+◌, ◌*◌, ◌≤◌, Bool, IsTrue, Some, Result, IsErrAnd, IsOk, IfOk, refl, sym, ◌∙◌, subst, arith}
+use Rattle.std.proofs.Common.{Ok, Err, ◌≡◌, ℕ, ◌+◌, ◌*◌, ◌≤◌, Bool, IsTrue, Some, Result, IsErrAnd, IsOk, IfOk, refl, sym, ◌∙◌, subst}
+use Rattle.std.proofs.Common.{arith}
 use Rattle.bm_base.specs.declared.dims.Dims.{Dims}
 use Rattle.bm_base.specs.declared.shape.Shape.{Shape}
 use Rattle.bm_base.specs.Contents.{Contents, page_at}
@@ -127,7 +128,8 @@ pub failed_of : (e : ControlError) (r : Result OpenJob OpenError) → IsErrAnd r
     → e ≡ control.Failed
 failed_of e r made is = error_failed e (err_injective {T = OpenJob} (open_error e) Failed (sym (error_is r (open_error e) made) ∙ is))
 
-pub never_failed : (s : Shape) (job : Job) (state : SlateState) (r : Result OpenJob OpenError) → ReadAnswer s job state r → ¬ (r ≡ Err Failed)
+pub never_failed : (s : Shape) (job : Job) (state : SlateState) (r : Result OpenJob OpenError) → ReadAnswer s job state r
+    → ¬ (r ≡ Err Failed)
 never_failed s job state r read is = subst (ReadAnswer s job state) is read
 
 -- pages that were read, of which more may be
@@ -142,7 +144,8 @@ reads_exact p most a b well few x =
       high = omega (arith, x.pages, few);
     }
 
-reads_wider : {tells_stands tells_contents : Bool} (least most more : ℕ) (a b : RackView) → IsWellFormed tells_stands tells_contents a → most ≤ more
+reads_wider : {tells_stands tells_contents : Bool} (least most more : ℕ) (a b : RackView) → IsWellFormed tells_stands tells_contents a
+    → most ≤ more
     → ReadsPages least most a b → ReadsPages 0 more a b
 reads_wider least most more a b well few x =
     let fp = well.pages in
@@ -169,7 +172,8 @@ pub look_counts : {tells_stands tells_contents : Bool} (state : SlateState) (a b
 look_counts state a b c well after fits x y = sync_read 516 516 a b c well x (state_reads state b c after fits y) (omega arith)
 
 -- and of one that finds the job
-pub look_pages : {tells_stands tells_contents : Bool} (s : Shape) (job : Job) (state : SlateState) (r : Result OpenJob OpenError) (a b c : RackView)
+pub look_pages : {tells_stands tells_contents : Bool} (s : Shape) (job : Job) (state : SlateState) (r : Result OpenJob OpenError)
+    (a b c : RackView)
     → IsWellFormed tells_stands tells_contents a → IsWellFormed tells_stands tells_contents b → ReadAnswer s job state r
     → RaisesCounts 0 0 1 a b → StateCalls (Ok state) b c → IfOk r (λ o. MakesPageCalls ⊥ (8 + 2 * o.passes) 1 a c)
 look_pages s job state (Ok o) a b c well after read x y =

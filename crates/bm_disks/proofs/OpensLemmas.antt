@@ -22,7 +22,8 @@ use Rattle.bm_disks.proofs.GateLemmas.{BothClosed, both_in_images}
 use Rattle.bm_disks.proofs.LoadingLemmas.{input_kept}
 
 -- an image of a sound rack in which the load gate is open has the rack's input
-input_in_image : (v : RackView) (dims : Dims) (image : Contents) → IsSound v → v.stands ≡ Some dims → IsImage dims v image → HasOpenLoad image
+input_in_image : (v : RackView) (dims : Dims) (image : Contents) → IsSound v → v.stands ≡ Some dims → IsImage dims v image
+    → HasOpenLoad image
     → (u : RackUnit) → IsInputUnit dims u → unit_at image u ≡ unit_at v.contents u
 input_in_image v dims image sound stands i gate u input = i.clean u (sound.input dims image stands i gate u input)
 

@@ -50,7 +50,8 @@ pub record HasLoadOf (old : RackView) (image : Contents) : Type 0 where
   pub input : (dims : Dims) → old.stands ≡ Some dims → (u : RackUnit) → IsInputUnit dims u → unit_at image u ≡ unit_at old.contents u
   pub body : old.dirty (page_unit load_body) ≡ false → page_at image load_body ≡ page_at old.contents load_body
 
--- Where an image has the load gate open, it holds the N records of an input that held just these; or it has the load of before, and the load
+-- Where an image has the load gate open, it holds the N records of an input that held just these; or it has the load of before, and the
+-- load
 -- gate was open in some image then too.
 abbrev pub OpensWhole : Shape → List ℕ → RackView → Contents → Type 0
 OpensWhole s bytes old image = HasOpenLoad image

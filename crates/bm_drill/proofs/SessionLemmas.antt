@@ -1,5 +1,6 @@
 -- One session: a stop is set, a run is made, and the stop is taken away or ended by a restart.
-use Rattle.std.proofs.Common.{Ok, Err, ◌≡◌, ◌≢◌, inl, inr, ℕ, ◌+◌, ◌-◌, ◌*◌, ◌^◌, ◌<◌, ◌≤◌, Bool, true, IsTrue, List, replicate, Result, IfOk, IsErrOf, IsOkUnless, Some, refl, sym, ◌∙◌, ap, subst, subst₂, arith}
+use Rattle.std.proofs.Common.{Ok, Err, ◌≡◌, ◌≢◌, inl, inr, ℕ, ◌+◌, ◌-◌, ◌*◌, ◌^◌, ◌<◌, ◌≤◌, Bool, true, IsTrue, List, replicate, Result}
+use Rattle.std.proofs.Common.{IfOk, IsErrOf, IsOkUnless, Some, refl, sym, ◌∙◌, ap, subst, subst₂, arith}
 use Rattle.std.proofs.lemmas.Bool.{cases_Bool}
 use Rattle.std.proofs.lemmas.List.{length-replicate}
 use Rattle.bm_base.specs.declared.dims.Dims.{Dims}
@@ -27,7 +28,8 @@ use Rattle.bm_control.proofs.SoundLemmas.{sound_same, sound_restarted}
 use Rattle.bm_job.specs.declared.answers.RunError.{RunError}
 use Rattle.bm_job.specs.declared.answers.RunError.TheVariants.{Failed, NotLoaded, OtherShape, OtherJob, BadPage}
 use Rattle.bm_job.specs.Begins.{BeginAnswer}
-use Rattle.bm_job.specs.Runs.{IsRunUnit, load_rows, CallsFew, ReportFits, IsReportOf, RunAnswer, IsRunnable, RunDone, RunFailed, KeepsJobs, KeepsOpenJob, MovesFew}
+use Rattle.bm_job.specs.Runs.{IsRunUnit, load_rows, CallsFew, ReportFits, IsReportOf, RunAnswer, IsRunnable, RunDone, RunFailed, KeepsJobs}
+use Rattle.bm_job.specs.Runs.{KeepsOpenJob, MovesFew}
 use Rattle.bm_job.proofs.EndLemmas.{keeps_open}
 use Rattle.bm_drill.specs.Session.{SessionKeeps, SessionWent, SessionStopped, SessionRefused, SessionAnswer, run_most}
 

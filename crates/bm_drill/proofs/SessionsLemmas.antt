@@ -1,5 +1,6 @@
 -- What stands after the last session, and what it answers.
-use Rattle.std.proofs.Common.{◌≡◌, ◌⊎◌, inl, inr, ℕ, ◌+◌, ◌-◌, ◌*◌, ◌^◌, ◌<◌, ◌≤◌, Bool, IsTrue, List, Some, refl, sym, ◌∙◌, ap, subst, subst₂, arith}
+use Rattle.std.proofs.Common.{◌≡◌, ◌⊎◌, inl, inr, ℕ, ◌+◌, ◌-◌, ◌*◌, ◌^◌, ◌<◌, ◌≤◌, Bool, IsTrue, List, Some, refl, sym, ◌∙◌, ap, subst}
+use Rattle.std.proofs.Common.{subst₂, arith}
 use Rattle.std.proofs.lemmas.Bool.{cases_lt}
 use Rattle.bm_base.specs.declared.report.RunReport.{RunReport}
 use Rattle.bm_base.specs.declared.report.SessionsReport.{SessionsReport}

@@ -6,7 +6,8 @@ use Rattle.std.proofs.lemmas.Nat.Bits.{bit_at-lt}
 use Rattle.bm_gf2.specs.Vector.{xor_sum}
 use Rattle.bm_gf2.specs.declared.matrix.Matrix.{Matrix}
 use Rattle.bm_gf2.specs.Matrix.{image, column}
-use Rattle.bm_gf2.proofs.VectorLemmas.{xor_sum-xor, xor_sum-pow, xor_sum-xor_sum, xor_sum-ext, xor_sum-units, xor_sum-above, bit_cases, xor_same, xor_cancel, zero_times}
+use Rattle.bm_gf2.proofs.VectorLemmas.{xor_sum-xor, xor_sum-pow, xor_sum-xor_sum, xor_sum-ext, xor_sum-units, xor_sum-above, bit_cases}
+use Rattle.bm_gf2.proofs.VectorLemmas.{xor_same, xor_cancel, zero_times}
 use Rattle.bm_factor.specs.Columns.{IsOwnInverse}
 
 -- the columns that are picked decide

@@ -1,5 +1,6 @@
 -- The loop of the eraser: each of columns b..m-1 gets the columns from m on whose sum it is in rows m and above.
-use Rattle.std.proofs.Common.{◌≡◌, ◌≢◌, ℕ, ◌+◌, ◌-◌, ◌*◌, ◌/◌, ◌%◌, ◌^◌, ◌<◌, ◌≤◌, Bool, false, not, if◌then◌else◌, List, [], ◌∷◌, ◌++◌, length, length-append, slice_index, bit_xor, sym, ap, ◌∙◌, subst, arith, ⊎_elim}
+use Rattle.std.proofs.Common.{◌≡◌, ◌≢◌, ℕ, ◌+◌, ◌-◌, ◌*◌, ◌/◌, ◌%◌, ◌^◌, ◌<◌, ◌≤◌, Bool, false, not, if◌then◌else◌, List, [], ◌∷◌, ◌++◌}
+use Rattle.std.proofs.Common.{length, length-append, slice_index, bit_xor, sym, ap, ◌∙◌, subst, arith, ⊎_elim}
 use Rattle.std.specs.Int.{bit_at}
 use Rattle.std.specs.Int.Bits.{xor_shr, xor_mod, xor_self, xor_zero_l}
 use Rattle.std.proofs.Math.Nat.{pow-le-pow_right, mod-lt, mod-eq_of_lt, div-eq_of_lt}
@@ -9,7 +10,8 @@ use Rattle.std.proofs.lemmas.Bool.{cases_lt, cases_eq}
 use Rattle.bm_gf2.specs.Vector.{xor_sum}
 use Rattle.bm_gf2.specs.declared.matrix.Matrix.{Matrix}
 use Rattle.bm_gf2.specs.Matrix.{image, column}
-use Rattle.bm_gf2.proofs.VectorLemmas.{xor_sum-zero, xor_sum-xor, xor_sum-pow, xor_sum-shr, xor_sum-mod, xor_sum-ext, xor_sum-bits, xor_sum-above, xor_sum-units, xor_sum-split, xor_sum-low, xor_pow_above, xor_same}
+use Rattle.bm_gf2.proofs.VectorLemmas.{xor_sum-zero, xor_sum-xor, xor_sum-pow, xor_sum-shr, xor_sum-mod, xor_sum-ext, xor_sum-bits}
+use Rattle.bm_gf2.proofs.VectorLemmas.{xor_sum-above, xor_sum-units, xor_sum-split, xor_sum-low, xor_pow_above, xor_same}
 use Rattle.bm_rank.specs.Span.{in_span, sum_of}
 use Rattle.bm_rank.proofs.SpanLemmas.{kept_old, kept_last, sum_of_span, false_from}
 use Rattle.bm_rank.proofs.RowCutLemmas.{middle_of_low}

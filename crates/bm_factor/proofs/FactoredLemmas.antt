@@ -6,7 +6,8 @@ use Rattle.std.proofs.lemmas.Nat.{shl-shr, shr_below}
 use Rattle.bm_gf2.specs.Vector.{xor_sum}
 use Rattle.bm_gf2.specs.declared.matrix.Matrix.{Matrix}
 use Rattle.bm_gf2.specs.Matrix.{image, column, IsNonsingular}
-use Rattle.bm_gf2.proofs.VectorLemmas.{xor_sum-zero, xor_sum-above, xor_sum-pow, xor_sum-ext, xor_sum-lt, xor_sum-shr, xor_sum-split, xor_sum-units, xor_same}
+use Rattle.bm_gf2.proofs.VectorLemmas.{xor_sum-zero, xor_sum-above, xor_sum-pow, xor_sum-ext, xor_sum-lt, xor_sum-shr, xor_sum-split}
+use Rattle.bm_gf2.proofs.VectorLemmas.{xor_sum-units, xor_same}
 use Rattle.bm_rank.specs.Inverse.{IsInverse}
 use Rattle.bm_rank.specs.Rank.{rank_of_rows}
 use Rattle.bm_rank.proofs.RowCutLemmas.{image_below}

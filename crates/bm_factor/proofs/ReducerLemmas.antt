@@ -1,5 +1,6 @@
 -- The loop of the reducer, from column 0 on: a column that is new in rows m and above stays, another one becomes 0 there.
-use Rattle.std.proofs.Common.{◌≡◌, ◌≢◌, ℕ, ◌+◌, ◌/◌, ◌^◌, ◌<◌, ◌≤◌, true, false, List, [], ◌∷◌, ◌++◌, length, length-append, slice_index, map, take, bit_xor, refl, sym, ap, ◌∙◌, subst, arith, add-one, ⊎_elim, inl, inr, ◌⊎◌}
+use Rattle.std.proofs.Common.{◌≡◌, ◌≢◌, ℕ, ◌+◌, ◌/◌, ◌^◌, ◌<◌, ◌≤◌, true, false, List, [], ◌∷◌, ◌++◌, length, length-append, slice_index}
+use Rattle.std.proofs.Common.{map, take, bit_xor, refl, sym, ap, ◌∙◌, subst, arith, add-one, ⊎_elim, inl, inr, ◌⊎◌}
 use Rattle.std.specs.Int.{bit_at}
 use Rattle.std.specs.Int.Bits.{xor_shr, xor_self, xor_zero_l}
 use Rattle.std.proofs.Math.Nat.{pow-le-pow_right}
@@ -11,11 +12,13 @@ use Rattle.std.proofs.lemmas.List.{map-append}
 use Rattle.bm_gf2.specs.Vector.{xor_sum}
 use Rattle.bm_gf2.specs.declared.matrix.Matrix.{Matrix}
 use Rattle.bm_gf2.specs.Matrix.{image, column}
-use Rattle.bm_gf2.proofs.VectorLemmas.{xor_sum-xor, xor_sum-pow, xor_sum-shr, xor_sum-xor_sum, xor_sum-ext, xor_sum-above, xor_sum-lt, bit_of_xor, eq_of_xor-zero, xor_same}
+use Rattle.bm_gf2.proofs.VectorLemmas.{xor_sum-xor, xor_sum-pow, xor_sum-shr, xor_sum-xor_sum, xor_sum-ext, xor_sum-above, xor_sum-lt}
+use Rattle.bm_gf2.proofs.VectorLemmas.{bit_of_xor, eq_of_xor-zero, xor_same}
 use Rattle.bm_rank.specs.Span.{in_span, sum_of}
 use Rattle.bm_rank.specs.Rank.{cut_columns, IsBasis}
 use Rattle.bm_rank.specs.Echelon.{weight}
-use Rattle.bm_rank.proofs.SpanLemmas.{in_span-member, kept_old, kept_last, in_span-zero, in_span-cons_known, in_span-cons_same, in_span-push, in_span-sum}
+use Rattle.bm_rank.proofs.SpanLemmas.{in_span-member, kept_old, kept_last, in_span-zero, in_span-cons_known, in_span-cons_same}
+use Rattle.bm_rank.proofs.SpanLemmas.{in_span-push, in_span-sum}
 use Rattle.bm_rank.proofs.RankBoundLemmas.{in_span-append_left}
 use Rattle.bm_rank.proofs.KernelLemmas.{IsIndependent, independent_more}
 use Rattle.bm_rank.proofs.RowSolutionLemmas.{halves}

@@ -1,5 +1,6 @@
 -- The loop of the trailer: each column from m on gets another one where it needs it.
-use Rattle.std.proofs.Common.{◌≡◌, ◌≢◌, ℕ, ◌+◌, ◌-◌, ◌*◌, ◌/◌, ◌^◌, ◌<◌, ◌≤◌, Bool, true, false, not, if◌then◌else◌, List, [], ◌∷◌, ◌++◌, length, length-append, slice_index, bit_xor, map, refl, sym, ap, ◌∙◌, subst, arith, ⊎_elim}
+use Rattle.std.proofs.Common.{◌≡◌, ◌≢◌, ℕ, ◌+◌, ◌-◌, ◌*◌, ◌/◌, ◌^◌, ◌<◌, ◌≤◌, Bool, true, false, not, if◌then◌else◌, List, [], ◌∷◌, ◌++◌}
+use Rattle.std.proofs.Common.{length, length-append, slice_index, bit_xor, map, refl, sym, ap, ◌∙◌, subst, arith, ⊎_elim}
 use Rattle.std.specs.List.{range_with_len}
 use Rattle.std.specs.Int.Bits.{xor_shr}
 use Rattle.std.proofs.lemmas.Nat.{xor_comm, pow_pos, pow_below, shl-shr, shl_below}
@@ -241,7 +242,8 @@ pub turn_added : (a t t2 : Matrix) (m j i : ℕ) (kept kept1 kept2 : List ℕ) (
     → b2 ≡ not (in_span kept1 (bit_xor (column a j / 2 ^ m) (column a i / 2 ^ m)))
     → kept2 ≡ (if b2 then kept1 ++ (bit_xor (column a j / 2 ^ m) (column a i / 2 ^ m)) ∷ [] else kept1)
     → IsTrailing a t2 m (j + 1) kept2
-turn_added a t t2 m j i kept kept1 kept2 b1 b2 s above inside below size is_refused refused_is kept_is free changed others fresh_is kept2_is =
+turn_added a t t2 m j i kept kept1 kept2 b1 b2 s above inside below size is_refused refused_is kept_is free changed others fresh_is kept2_is
+    =
     let u : ℕ = column a j / 2 ^ m in
     let v : ℕ = column a i / 2 ^ m in
     let same : kept1 ≡ kept = insert_same kept kept1 u b1 kept_is is_refused in

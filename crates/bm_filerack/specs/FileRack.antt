@@ -6,7 +6,8 @@ use Rattle.bm_rack.specs.RackView.{IsWellFormed}
 use Rattle.bm_rack.specs.Untold.{untold_view}
 
 -- its counts fit, and of the rest nothing is told
-pub untold_is_consistent : (attached : Option Dims) (faults moves pages syncs : ℕ) → faults < 2 ^ 64 → moves < 2 ^ 64 → pages < 2 ^ 64 → syncs < 2 ^ 64 → IsWellFormed false false (untold_view attached faults moves pages syncs)
+pub untold_is_consistent : (attached : Option Dims) (faults moves pages syncs : ℕ) → faults < 2 ^ 64 → moves < 2 ^ 64 → pages < 2 ^ 64
+    → syncs < 2 ^ 64 → IsWellFormed false false (untold_view attached faults moves pages syncs)
 untold_is_consistent attached faults moves pages syncs f m p s = record {
   attached = λ told. absurd (false≢true told);
   sizes = λ told. absurd (false≢true told);

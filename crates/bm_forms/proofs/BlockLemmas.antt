@@ -1,5 +1,6 @@
 -- No block of a target holds records of two loads.
-use Rattle.std.proofs.Common.{ℕ, ◌≡◌, ◌+◌, ◌*◌, ◌/◌, ◌%◌, ◌^◌, ◌<◌, ◌≤◌, List, length, length-take, get_or-take, take, map, slice_index, bit_xor, sym, ap, ◌∙◌, subst, arith}
+use Rattle.std.proofs.Common.{ℕ, ◌≡◌, ◌+◌, ◌*◌, ◌/◌, ◌%◌, ◌^◌, ◌<◌, ◌≤◌, List, length, length-take, get_or-take, take, map, slice_index}
+use Rattle.std.proofs.Common.{bit_xor, sym, ap, ◌∙◌, subst, arith}
 use Rattle.std.specs.Int.Bits.{xor_self, xor_shr, xor_zero_l}
 use Rattle.std.proofs.lemmas.List.{get_or-map, length-map}
 use Rattle.std.proofs.lemmas.Nat.{xor_lt, pow_pos, shr_split}
@@ -8,7 +9,8 @@ use Rattle.bm_gf2.specs.Vector.{xor_sum}
 use Rattle.bm_gf2.specs.declared.matrix.Matrix.{Matrix}
 use Rattle.bm_gf2.specs.Matrix.{image, column, IsNonsingular}
 use Rattle.bm_gf2.specs.Affine.{affine_image}
-use Rattle.bm_gf2.proofs.VectorLemmas.{xor_sum-xor, xor_sum-ext, xor_sum-mod, xor_sum-above, xor_sum-bits, xor_swap, eq_of_xor-zero, zero_times}
+use Rattle.bm_gf2.proofs.VectorLemmas.{xor_sum-xor, xor_sum-ext, xor_sum-mod, xor_sum-above, xor_sum-bits, xor_swap, eq_of_xor-zero}
+use Rattle.bm_gf2.proofs.VectorLemmas.{zero_times}
 use Rattle.bm_rank.specs.RowSolution.{IsCovered, middle_rows}
 use Rattle.bm_rank.proofs.KernelLemmas.{IsIndependent}
 use Rattle.bm_rank.proofs.SpanLemmas.{sum_of_span}

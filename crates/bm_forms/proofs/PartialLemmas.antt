@@ -6,7 +6,8 @@ use Rattle.std.specs.Int.{bit_at}
 use Rattle.bm_base.specs.Butterfly.{negative}
 use Rattle.bm_forms.specs.Transform.{sum_below, signed}
 use Rattle.bm_base.proofs.CaseLemmas.{if_same, plus_same}
-use Rattle.bm_forms.proofs.TransformLemmas.{none_in_zero, sum_below-same, sum_below-split, sum_below-against, sum_below-one, and_low, and_high, signed-same, signed-against}
+use Rattle.bm_forms.proofs.TransformLemmas.{none_in_zero, sum_below-same, sum_below-split, sum_below-against, sum_below-one, and_low}
+use Rattle.bm_forms.proofs.TransformLemmas.{and_high, signed-same, signed-against}
 use Rattle.bm_gf2.proofs.VectorLemmas.{zero_times}
 use Rattle.bm_base.proofs.ButterflyLemmas.{set_bit}
 

@@ -7,7 +7,8 @@ use Rattle.bm_forms.specs.declared.pass_form.PassForm.{PassForm}
 use Rattle.bm_forms.specs.declared.job.Job.TheVariants.{Permute, Walsh}
 use Rattle.bm_forms.specs.Permutation.{permuted}
 use Rattle.bm_forms.specs.Plan.{all_passed, DoJob}
-use Rattle.bm_forms.proofs.RoundLemmas.{Numbered, Written, IsRotation, written_round, numbered_written, numbered_first, written_same, transformed_written}
+use Rattle.bm_forms.proofs.RoundLemmas.{Numbered, Written, IsRotation, written_round, numbered_written, numbered_first, written_same}
+use Rattle.bm_forms.proofs.RoundLemmas.{transformed_written}
 use Rattle.bm_forms.proofs.PlanLemmas.{all_passed-append, all_passed-none}
 
 -- the same pass with butterflies

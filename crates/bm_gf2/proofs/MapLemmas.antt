@@ -17,8 +17,10 @@ matrix_equal a b n cols =
     let long_prop : (ws : List ℕ) → IsProp (length ws ≡ 52) = hlevel props in
     let below_prop : (m : ℕ) (ws : List ℕ) → IsProp ((j : ℕ) → j < m → slice_index ws j < 2 ^ m) = hlevel props in
     let rest_prop : (m : ℕ) (ws : List ℕ) → IsProp ((j : ℕ) → m ≤ j → slice_index ws j ≡ 0) = hlevel props in
-    subst₂ (λ (m : ℕ) (ws : List ℕ). (some : 1 ≤ m) (few : m ≤ 52) (long : length ws ≡ 52) (below : (j : ℕ) → j < m → slice_index ws j < 2 ^ m)
-    (rest : (j : ℕ) → m ≤ j → slice_index ws j ≡ 0) → a ≡ record { n = m; cols = ws; some = some; few = few; long = long; below = below; rest = rest })
+    subst₂ (λ (m : ℕ) (ws : List ℕ). (some : 1 ≤ m) (few : m ≤ 52) (long : length ws ≡ 52) (below : (j : ℕ) → j < m
+    → slice_index ws j < 2 ^ m)
+    (rest : (j : ℕ) → m ≤ j → slice_index ws j ≡ 0)
+    → a ≡ record { n = m; cols = ws; some = some; few = few; long = long; below = below; rest = rest })
     n cols
     (λ some few long below rest i. record {
       n = a.n;

@@ -1,5 +1,6 @@
 -- How the image of a position changes where the position goes up by one.
-use Rattle.std.proofs.Common.{List, length, get_or-set_other, get_or-set_same, ◌≡◌, ◌≢◌, ℕ, suc, ◌+◌, ◌-◌, ◌*◌, ◌/◌, ◌%◌, ◌^◌, ◌<◌, ◌≤◌, bit_xor, slice_index, slice_set, w64, sym, ap, ◌∙◌, arith, ⊎_elim}
+use Rattle.std.proofs.Common.{List, length, get_or-set_other, get_or-set_same, ◌≡◌, ◌≢◌, ℕ, suc, ◌+◌, ◌-◌, ◌*◌, ◌/◌, ◌%◌, ◌^◌, ◌<◌, ◌≤◌}
+use Rattle.std.proofs.Common.{bit_xor, slice_index, slice_set, w64, sym, ap, ◌∙◌, arith, ⊎_elim}
 use Rattle.std.specs.Int.{bit_at, trailing_ones}
 use Rattle.std.specs.Int.Bits.{xor_assoc, xor_self, xor_zero_l, xor_zero_r, xor_shifted}
 use Rattle.std.proofs.lemmas.Nat.{xor_comm, pow_pos, mod-pow-add, pow_below}
@@ -7,7 +8,8 @@ use Rattle.std.proofs.Math.Nat.{mod-lt, mod-add-div', two-pow-succ}
 use Rattle.std.proofs.lemmas.Nat.Bits.{bit_at_ones, bit_at-trailing_ones, same_from_bits_below}
 use Rattle.std.proofs.lemmas.Bool.{cases_lt, cases_eq}
 use Rattle.bm_gf2.specs.Vector.{xor_sum}
-use Rattle.bm_gf2.proofs.VectorLemmas.{bit_of_low, xor_sum-low, xor_same, xor_swap, xor_cancel, xor_sum-xor, xor_sum-bits, xor_sum-above, xor_sum-more}
+use Rattle.bm_gf2.proofs.VectorLemmas.{bit_of_low, xor_sum-low, xor_same, xor_swap, xor_cancel, xor_sum-xor, xor_sum-bits, xor_sum-above}
+use Rattle.bm_gf2.proofs.VectorLemmas.{xor_sum-more}
 
 -- t ones at the end
 low_ones : (t r : ℕ) → ((i : ℕ) → i < t → bit_at r i ≡ 1) → r % 2 ^ t ≡ 2 ^ t - 1

@@ -1,5 +1,6 @@
 -- Laws of `xor_sum`.
-use Rattle.std.proofs.Common.{List, length, set, get_or-set_other, get_or-set_same, get_or, replicate, ◌≡◌, ◌≢◌, bit_and, ℕ, zero, suc, ◌+◌, ◌*◌, ◌/◌, ◌%◌, ◌^◌, ◌<◌, ◌≤◌, bit_xor, refl, sym, ap, ◌∙◌, subst, arith, add-one, inl, inr, ⊎_elim, ◌⊎◌}
+use Rattle.std.proofs.Common.{List, length, set, get_or-set_other, get_or-set_same, get_or, replicate, ◌≡◌, ◌≢◌, bit_and, ℕ, zero, suc, ◌+◌}
+use Rattle.std.proofs.Common.{◌*◌, ◌/◌, ◌%◌, ◌^◌, ◌<◌, ◌≤◌, bit_xor, refl, sym, ap, ◌∙◌, subst, arith, add-one, inl, inr, ⊎_elim, ◌⊎◌}
 use Rattle.std.specs.Int.{bit_at}
 use Rattle.std.specs.Int.Bits.{xor_assoc, xor_self, xor_zero_r, xor_mod, xor_shr, xor_shifted}
 use Rattle.std.proofs.lemmas.Nat.{xor_comm, xor_lt, pow_pos, mod-pow-add, shr-shr, one_shl, pow_below}

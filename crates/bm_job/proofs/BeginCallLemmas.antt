@@ -23,7 +23,8 @@ calls_wider p s p' s' a b pages syncs x = record {
 }
 
 -- calls after others
-pub calls_then : (p s p' s' p'' s'' : ℕ) (a b c : RackView) → p + p' ≤ p'' → s + s' ≤ s'' → MakesPageCalls ⊥ p s a b → MakesPageCalls ⊥ p' s' b c → MakesPageCalls ⊥ p'' s'' a c
+pub calls_then : (p s p' s' p'' s'' : ℕ) (a b c : RackView) → p + p' ≤ p'' → s + s' ≤ s'' → MakesPageCalls ⊥ p s a b
+    → MakesPageCalls ⊥ p' s' b c → MakesPageCalls ⊥ p'' s'' a c
 calls_then p s p' s' p'' s'' a b c pages syncs x y = record {
   done = λ e. absurd e;
   moves = y.moves ∙ x.moves;
@@ -51,7 +52,8 @@ begin_read v passes a b x = record {
 }
 
 -- and of one that starts a job
-pub begin_started : (v : Contents) (passes : ℕ) (a b c : RackView) → HasClosedJob v → SettledPages v a b → MakesPageCalls ⊥ (4 + 2 * passes) 2 b c
+pub begin_started : (v : Contents) (passes : ℕ) (a b c : RackView) → HasClosedJob v → SettledPages v a b
+    → MakesPageCalls ⊥ (4 + 2 * passes) 2 b c
     → BeginCalls v passes a c
 begin_started v passes a b c closed x y = record {
   none = λ _. all;
@@ -63,12 +65,14 @@ begin_started v passes a b c closed x y = record {
     all = calls_then 3 1 (4 + 2 * passes) 2 (7 + 2 * passes) 3 a b c (omega arith) (omega arith) (x.idle closed) y
 
 -- the calls of a begin that opened a job, by the machine
-pub counts_started : (passes every : ℕ) (a b c : RackView) (r : Result Machine RunError) → MakesPageCalls ⊥ 3 1 a b → MakesPageCalls ⊥ (4 + 2 * passes) 2 b c
+pub counts_started : (passes every : ℕ) (a b c : RackView) (r : Result Machine RunError) → MakesPageCalls ⊥ 3 1 a b
+    → MakesPageCalls ⊥ (4 + 2 * passes) 2 b c
     → IfOk r (λ m. IsStart passes every m) → IfOk r (λ m. MakesPageCalls ⊥ (8 + 2 * m.passes) 3 a c)
 counts_started passes every a b c (Ok m) x y start =
     let same = start.passes_are in
     calls_then 3 1 (4 + 2 * passes) 2 (8 + 2 * m.passes) 3 a b c (omega (arith, same)) (omega arith) x y
 counts_started passes every a b c (Err e) x y start = tt
 
-pub counts_loaded : (s : Shape) (state : SlateState) (a b : RackView) → state ≡ Loaded s → SettledCounts state a b → MakesPageCalls ⊥ 3 1 a b
+pub counts_loaded : (s : Shape) (state : SlateState) (a b : RackView) → state ≡ Loaded s → SettledCounts state a b
+    → MakesPageCalls ⊥ 3 1 a b
 counts_loaded s state a b is x = subst (λ (t : SlateState). SettledCounts t a b) is x

@@ -1,5 +1,6 @@
 -- A job that is begun.
-use Rattle.std.proofs.Common.{Ok, Err, ◌≡◌, ◌≢◌, inl, inr, ℕ, ◌+◌, ◌*◌, ◌^◌, ◌<◌, ◌≤◌, Bool, false, IsTrue, List, length, take, slice_get, Option, Some, None, Result, IfOk, IfErr, IsErrAnd, IsOkUnless, refl, sym, ◌∙◌, ap, subst, arith}
+use Rattle.std.proofs.Common.{Ok, Err, ◌≡◌, ◌≢◌, inl, inr, ℕ, ◌+◌, ◌*◌, ◌^◌, ◌<◌, ◌≤◌, Bool, false, IsTrue, List, length, take, slice_get}
+use Rattle.std.proofs.Common.{Option, Some, None, Result, IfOk, IfErr, IsErrAnd, IsOkUnless, refl, sym, ◌∙◌, ap, subst, arith}
 use Rattle.std.proofs.Math.Path.{subst₂}
 use Rattle.std.proofs.lemmas.Bool.{cases_lt}
 use Rattle.bm_base.specs.declared.dims.Dims.{Dims}
@@ -64,8 +65,10 @@ start_apart passes k parts h (inr (inr (inr is))) = elim is.1 [
 ]
 
 -- a job that was opened
-pub started_held : (s : Shape) (job : Job) (forms : List PassForm) (passes every : ℕ) (old new : RackView) → passes ≡ length forms → old.attached ≡ Some (dims_of s)
-    → IsLoadedAlone s old.contents → DirtiesOnly (IsStartPage (length forms) (every < loads_of s)) old new → IsClean new → HasOpenJob new.contents
+pub started_held : (s : Shape) (job : Job) (forms : List PassForm) (passes every : ℕ) (old new : RackView) → passes ≡ length forms
+    → old.attached ≡ Some (dims_of s)
+    → IsLoadedAlone s old.contents → DirtiesOnly (IsStartPage (length forms) (every < loads_of s)) old new → IsClean new
+    → HasOpenJob new.contents
     → JobIsWritten s job forms every new.contents → IsSound new → IsHeld s job passes 0 every 0 2 new
 started_held s job forms passes every old new count attached loaded w clean gate written sound = record {
   sound = sound;
@@ -92,7 +95,8 @@ started_held s job forms passes every old new count attached loaded w clean gate
 }
 
 -- its passes have bodies
-pub started_bodies : (s : Shape) (forms : List PassForm) (passes : ℕ) (v : Contents) → passes ≡ length forms → BodiesAre s v forms → (k : ℕ) → k < passes
+pub started_bodies : (s : Shape) (forms : List PassForm) (passes : ℕ) (v : Contents) → passes ≡ length forms → BodiesAre s v forms → (k : ℕ)
+    → k < passes
     → HasPassBody s v k
 started_bodies s forms passes v count bodies k below =
     let found = element forms k (omega (arith, below, count)) in
@@ -103,13 +107,16 @@ error_told : (v : Contents) (e : ControlError) → StateAnswer v (Err e) → Set
 error_told v control.Failed answer = tt
 error_told v (control.BadPage page) answer = answer
 
-pub settled_error : (v w : Contents) (e : ControlError) (r : Result SlateState RunError) → w ≡ v → IsErrAnd r (λ made. made ≡ run_error e) → StateAnswer w (Err e)
+pub settled_error : (v w : Contents) (e : ControlError) (r : Result SlateState RunError) → w ≡ v → IsErrAnd r (λ made. made ≡ run_error e)
+    → StateAnswer w (Err e)
     → SettledAnswer v r
 settled_error v w e r same is answer =
-    subst (SettledAnswer v) (sym (error_is r (run_error e) is)) (error_told v e (subst (λ (c : Contents). StateAnswer c (Err e)) same answer))
+    subst (SettledAnswer v) (sym (error_is r (run_error e) is))
+    (error_told v e (subst (λ (c : Contents). StateAnswer c (Err e)) same answer))
 
 -- a sync and pages read after it
-pub sync_read : {tells_stands tells_contents : Bool} (most pages : ℕ) (a b c : RackView) → IsWellFormed tells_stands tells_contents a → RaisesCounts 0 0 1 a b
+pub sync_read : {tells_stands tells_contents : Bool} (most pages : ℕ) (a b c : RackView) → IsWellFormed tells_stands tells_contents a
+    → RaisesCounts 0 0 1 a b
     → ReadsPages 0 most b c → most ≤ pages → MakesPageCalls ⊥ pages 1 a c
 sync_read most pages a b c well x y few =
     let fp = well.pages in
@@ -123,7 +130,8 @@ sync_read most pages a b c well x y few =
       syncs_high = omega (arith, x.syncs, y.syncs);
     }
 
-pub settled_pages : {tells_stands tells_contents : Bool} (v w : Contents) (a b c : RackView) → w ≡ v → IsWellFormed tells_stands tells_contents a
+pub settled_pages : {tells_stands tells_contents : Bool} (v w : Contents) (a b c : RackView) → w ≡ v
+    → IsWellFormed tells_stands tells_contents a
     → RaisesCounts 0 0 1 a b → StatePages w b c → SettledPages v a c
 settled_pages v w a b c same well x z =
     let y = subst (λ (d : Contents). StatePages d b c) same z in record {
@@ -133,7 +141,8 @@ settled_pages v w a b c same well x z =
     }
 
 -- the most pages that are read, whatever is told
-state_most : {tells_stands tells_contents : Bool} (r : Result SlateState ControlError) (old new : RackView) → IsWellFormed tells_stands tells_contents old
+state_most : {tells_stands tells_contents : Bool} (r : Result SlateState ControlError) (old new : RackView)
+    → IsWellFormed tells_stands tells_contents old
     → IfOk r StateFits → StateCalls r old new → ReadsPages 0 516 old new
 state_most (Ok Closed) old new well fits x = reads_within 1 516 old new well (omega arith) x
 state_most (Ok (Loaded s)) old new well fits x = reads_within 3 516 old new well (omega arith) x
@@ -145,31 +154,39 @@ state_most (Ok (Working s job passes done every part slot)) old new well fits (x
     record { moves = x.moves; syncs = x.syncs; low = omega (arith, low); high = omega (arith, high, few, less) }
 state_most (Err e) old new well fits x = x
 
-pub settled_most : {tells_stands tells_contents : Bool} (r : Result SlateState ControlError) (a b c : RackView) → IsWellFormed tells_stands tells_contents a
+pub settled_most : {tells_stands tells_contents : Bool} (r : Result SlateState ControlError) (a b c : RackView)
+    → IsWellFormed tells_stands tells_contents a
     → IsWellFormed tells_stands tells_contents b → RaisesCounts 0 0 1 a b → IfOk r StateFits → StateCalls r b c → MakesPageCalls ⊥ 516 1 a c
 settled_most r a b c well then x fits y = sync_read 516 516 a b c well x (state_most r b c then fits y) (omega arith)
 
 -- the loads that an open slot counts of the pass under way are moved
-slot_moved : (s : Shape) (v : Contents) (j : JobStands s v) (slot part : ℕ) (t : SlotStands s v j.forms j.done slot) → t.pass ≡ j.done + 1 → t.loads ≡ part
+slot_moved : (s : Shape) (v : Contents) (j : JobStands s v) (slot part : ℕ) (t : SlotStands s v j.forms j.done slot) → t.pass ≡ j.done + 1
+    → t.loads ≡ part
     → AreMoved s j.done part v
 slot_moved s v j slot part t now loads form next =
     let known = t.known in
     let below : j.done < length j.forms = omega (arith, now, known) in
     let found = element j.forms j.done below in
-    moved_by s j.done part v found.0 form (record_at v s (area_after (j.done + 1))) (record_at v s (area_after j.done)) (j.bodies j.done found.0 found.1) next
-    (subst₂ (λ (p l : ℕ). LoadsMoved s found.0 l (record_at v s (area_after p)) (passed found.0 (record_at v s (area_after j.done)))) now loads
+    moved_by s j.done part v found.0 form (record_at v s (area_after (j.done + 1))) (record_at v s (area_after j.done))
+    (j.bodies j.done found.0 found.1) next
+    (subst₂ (λ (p l : ℕ). LoadsMoved s found.0 l (record_at v s (area_after p)) (passed found.0 (record_at v s (area_after j.done)))) now
+    loads
     (λ x inside. slot_record s v j slot t found.0 now found.1 below x inside))
   where
-    slot_record : (s : Shape) (v : Contents) (j : JobStands s v) (slot : ℕ) (t : SlotStands s v j.forms j.done slot) (form : PassForm) → t.pass ≡ j.done + 1
+    slot_record : (s : Shape) (v : Contents) (j : JobStands s v) (slot : ℕ) (t : SlotStands s v j.forms j.done slot) (form : PassForm)
+        → t.pass ≡ j.done + 1
         → slice_get j.forms j.done ≡ Some form → j.done < length j.forms → (x : ℕ) → x < t.loads * 2 ^ s.m
-        → record_at v s (area_after t.pass) (affine_image form.map.map x) ≡ passed form (record_at v s (area_after j.done)) (affine_image form.map.map x)
+        → record_at v s (area_after t.pass) (affine_image form.map.map x) ≡ passed form (record_at v s (area_after j.done))
+        (affine_image form.map.map x)
     slot_record s v j slot t form now is below x inside =
         t.moved now form is x inside
         ∙ ap (λ (p : ℕ). all_passed (take p j.forms) (input_of v s) (affine_image form.map.map x)) now
-        ∙ sym (next_passed s v j form below is (affine_image form.map.map x) (image_below_records s form x (j.bodies j.done form is).of_shape))
+        ∙ sym (next_passed s v j form below is (affine_image form.map.map x)
+        (image_below_records s form x (j.bodies j.done form is).of_shape))
 
 -- the counted loads are moved
-counted_moved : (s : Shape) (job : Job) (passes done every part slot : ℕ) (v : RackView) → v.stands ≡ Some (dims_of s) → HasSizes (dims_of s) v.contents
+counted_moved : (s : Shape) (job : Job) (passes done every part slot : ℕ) (v : RackView) → v.stands ≡ Some (dims_of s)
+    → HasSizes (dims_of s) v.contents
     → IsHeld s job passes done every part slot v → AreMoved s done part v.contents
 counted_moved s job passes done every part slot v stands sizes held = elim (cases_lt slot 2) [
   | inl h ↦ by_slot h
@@ -190,10 +207,12 @@ counted_moved s job passes done every part slot v stands sizes held = elim (case
         let both = part_unique s (page_at v.contents (slot_body slot)) t.pass t.loads (done + 1) part t.body c.body in
         let pass_is = both.0 in
         let now = at.done_is in
-        subst (λ (d : ℕ). AreMoved s d part v.contents) at.done_is (slot_moved s v.contents at.job slot part t (omega (arith, pass_is, now)) both.1)
+        subst (λ (d : ℕ). AreMoved s d part v.contents) at.done_is (slot_moved s v.contents at.job slot part t (omega (arith, pass_is, now))
+        both.1)
 
 -- a machine that goes on with an open job
-pub resumed_follows : (s : Shape) (job : Job) (m : Machine) (v : RackView) → v.stands ≡ Some (dims_of s) → HasSizes (dims_of s) v.contents → v.attached ≡ Some (dims_of s)
+pub resumed_follows : (s : Shape) (job : Job) (m : Machine) (v : RackView) → v.stands ≡ Some (dims_of s) → HasSizes (dims_of s) v.contents
+    → v.attached ≡ Some (dims_of s)
     → IsSound v → IsClean v → IsFresh s job m → StateAnswer v.contents (Ok (state_of m)) → Follows m v
 resumed_follows s job m v stands sizes attached sound clean fresh told =
     let held : IsHeld m.shape m.job m.passes m.done m.every m.part m.slot v = record {
@@ -212,12 +231,14 @@ resumed_follows s job m v stands sizes attached sound clean fresh told =
       held = held;
       form = λ form is. absurd (none_some form (sym fresh.form ∙ is));
       moved = subst (λ (l : ℕ). AreMoved m.shape m.done l v.contents) (sym fresh.load)
-          (counted_moved m.shape m.job m.passes m.done m.every m.part m.slot v (subst (λ (t : Shape). v.stands ≡ Some (dims_of t)) (sym fresh.shape) stands)
+          (counted_moved m.shape m.job m.passes m.done m.every m.part m.slot v
+          (subst (λ (t : Shape). v.stands ≡ Some (dims_of t)) (sym fresh.shape) stands)
           (subst (λ (t : Shape). HasSizes (dims_of t) v.contents) (sym fresh.shape) sizes) held);
     }
 
 -- its progress
-pub resumed_gone : (s : Shape) (job : Job) (m : Machine) (v : Contents) → IsFresh s job m → StateAnswer v (Ok (state_of m)) → IsGone v (loads_moved m)
+pub resumed_gone : (s : Shape) (job : Job) (m : Machine) (v : Contents) → IsFresh s job m → StateAnswer v (Ok (state_of m))
+    → IsGone v (loads_moved m)
 resumed_gone s job m v fresh told = inr (record {
   shape = m.shape;
   job = m.job;
@@ -239,13 +260,15 @@ pub err_injective : {T E : Type 0} (e f : E) → ◌≡◌ {A = Result T E} (Err
 err_injective e f is = cc
 
 -- a refusal of a wrong page names the first one
-pub bad_of : {T : Type 0} (v : Contents) (e : RunError) (r : Result T RunError) (page : ℕ) → IsErrAnd r (λ made. made ≡ e) → r ≡ Err (run.BadPage page)
+pub bad_of : {T : Type 0} (v : Contents) (e : RunError) (r : Result T RunError) (page : ℕ) → IsErrAnd r (λ made. made ≡ e)
+    → r ≡ Err (run.BadPage page)
     → SettledAnswer v (Err e) → IsFirstBad v page
 bad_of v e r page is bad answer =
     subst (λ (x : RunError). SettledAnswer v (Err x)) (err_injective e (run.BadPage page) (sym (error_is r e is) ∙ bad)) answer
 
 -- why a job can't be gone on with
-refused : (s : Shape) (job : Job) (passes every : ℕ) (v : Contents) (state : SlateState) (e : RunError) → StateAnswer v (Ok state) → ResumeAnswer s job state (Err e)
+refused : (s : Shape) (job : Job) (passes every : ℕ) (v : Contents) (state : SlateState) (e : RunError) → StateAnswer v (Ok state)
+    → ResumeAnswer s job state (Err e)
     → BeginAnswer s job passes every v (Err e)
 refused s job passes every v state run.Failed told answer = tt
 refused s job passes every v state run.NotLoaded told answer = subst (λ (x : SlateState). StateAnswer v (Ok x)) answer told
@@ -253,18 +276,21 @@ refused s job passes every v state run.OtherShape told answer = (state, told, an
 refused s job passes every v state run.OtherJob told answer = (state, told, answer.0, answer.1)
 refused s job passes every v state (run.BadPage page) told answer = absurd answer
 
-pub refused_by : (s : Shape) (job : Job) (passes every : ℕ) (v : Contents) (state : SlateState) (e : RunError) (r : Result Machine RunError) → IsErrAnd r (λ made. made ≡ e)
+pub refused_by : (s : Shape) (job : Job) (passes every : ℕ) (v : Contents) (state : SlateState) (e : RunError) (r : Result Machine RunError)
+    → IsErrAnd r (λ made. made ≡ e)
     → StateAnswer v (Ok state) → ResumeAnswer s job state (Err e) → BeginAnswer s job passes every v r
 refused_by s job passes every v state e r is told answer =
     subst (BeginAnswer s job passes every v) (sym (error_is r e is)) (refused s job passes every v state e told answer)
 
 -- what is known of a state that is gone on with
-pub resumed_of : (s : Shape) (job : Job) (state : SlateState) (o : Option Machine) (m : Machine) → o ≡ Some m → ResumeAnswer s job state (Ok o)
+pub resumed_of : (s : Shape) (job : Job) (state : SlateState) (o : Option Machine) (m : Machine) → o ≡ Some m
+    → ResumeAnswer s job state (Ok o)
     → IsFresh s job m × (state ≡ state_of m)
 resumed_of s job state o m is answer = subst (λ (x : Option Machine). ResumeAnswer s job state (Ok x)) is answer
 
 -- and of one in which the job is to be opened
-pub loaded_of : (s : Shape) (job : Job) (state : SlateState) (o : Option Machine) → o ≡ None → ResumeAnswer s job state (Ok o) → state ≡ Loaded s
+pub loaded_of : (s : Shape) (job : Job) (state : SlateState) (o : Option Machine) → o ≡ None → ResumeAnswer s job state (Ok o)
+    → state ≡ Loaded s
 loaded_of s job state o is answer = subst (λ (x : Option Machine). ResumeAnswer s job state (Ok x)) is answer
 
 -- a state that was told, of contents that are the same
@@ -281,7 +307,8 @@ kept_unless (Ok x) P failed = tt
 kept_unless (Err e) P failed = λ other. absurd (other failed)
 
 -- a start leaves the input
-pub start_input : (passes : ℕ) (parts : Type 0) (dims : Dims) (old new : RackView) → DirtiesOnly (IsStartPage passes parts) old new → SameInput dims old new
+pub start_input : (passes : ℕ) (parts : Type 0) (dims : Dims) (old new : RackView) → DirtiesOnly (IsStartPage passes parts) old new
+    → SameInput dims old new
 start_input passes parts dims old new w = record {
   contents = λ u input. w.contents u (apart u input);
   dirty = λ u input clean. w.dirty u (apart u input) clean;

@@ -3,7 +3,8 @@ use Rattle.std.proofs.Common.{◌≡◌, ℕ, ◌+◌, Bool, Result, Ok, Err, su
 use Rattle.bm_base.specs.Contents.{RackUnit}
 use Rattle.bm_rack.specs.RackView.{RackView, IsWellFormed}
 use Rattle.bm_rack.specs.Frames.{SameState, DirtiesOnly, Keeps, HasCause, RaisesCounts, MovesRows, RackCall, MakesCalls}
-use Rattle.bm_rack.proofs.FrameLemmas.{ChangesOnly-same, DirtiesOnly-wider, DirtiesOnly-changes, DirtiesOnly-trans, Keeps-trans, HasCause-later}
+use Rattle.bm_rack.proofs.FrameLemmas.{ChangesOnly-same, DirtiesOnly-wider, DirtiesOnly-changes, DirtiesOnly-trans, Keeps-trans}
+use Rattle.bm_rack.proofs.FrameLemmas.{HasCause-later}
 use Rattle.bm_control.specs.PageCalls.{MakesPageCalls, IsSlotPage}
 
 -- an answer is no refusal
@@ -23,13 +24,16 @@ call_of P Q failed other old new wider f x = record {
 }
 
 -- a slot's pages by the slot's other name
-pub slot_call : (free at : ℕ) (failed other : Type 0) (old new : RackView) → free ≡ at → (other → failed) → RackCall (IsSlotPage free) failed old new
+pub slot_call : (free at : ℕ) (failed other : Type 0) (old new : RackView) → free ≡ at → (other → failed)
+    → RackCall (IsSlotPage free) failed old new
     → RackCall (IsSlotPage at) other old new
 slot_call free at failed other old new same f x =
-    subst (λ (k : ℕ). RackCall (IsSlotPage k) other old new) same (call_of (IsSlotPage free) (IsSlotPage free) failed other old new (λ u is. is) f x)
+    subst (λ (k : ℕ). RackCall (IsSlotPage k) other old new) same
+    (call_of (IsSlotPage free) (IsSlotPage free) failed other old new (λ u is. is) f x)
 
 -- a call after others that changed less
-pub call_then : (P Q S : RackUnit → Type 0) (failed other : Type 0) (a b c : RackView) → ((u : RackUnit) → P u → S u) → ((u : RackUnit) → Q u → S u)
+pub call_then : (P Q S : RackUnit → Type 0) (failed other : Type 0) (a b c : RackView) → ((u : RackUnit) → P u → S u)
+    → ((u : RackUnit) → Q u → S u)
     → (other → failed) → DirtiesOnly P a b → Keeps a b → RackCall Q failed b c → RackCall S other a c
 call_then P Q S failed other a b c first second f w keeps x = record {
   frame = DirtiesOnly-trans S a b c (DirtiesOnly-wider P S a b first w) (DirtiesOnly-wider Q S b c second x.frame);

@@ -29,11 +29,14 @@ pub record KeepsPages (P : ℕ → Type 0) (passes done slot : ℕ) (a b : Conte
 pub counted_stays : (P : ℕ → Type 0) (s : Shape) (job : Job) (passes done every part slot : ℕ) (v : RackView) (image : Contents) (gone : ℕ)
     → IsHeld s job passes done every part slot v → part < loads_of s → KeepsPages P passes done slot v.contents image → IsGone image gone
     → done * loads_of s + part ≤ gone
-counted_stays P s job passes done every part slot v image gone held few k (inl is) = absurd (is.0 (k.pages job_gate (k.front job_gate (omega arith)) ∙ held.job_gate))
+counted_stays P s job passes done every part slot v image gone held few k (inl is) = absurd
+    (is.0 (k.pages job_gate (k.front job_gate (omega arith)) ∙ held.job_gate))
 counted_stays P s job passes done every part slot v image gone held few k (inr g) =
-    let same : s ≡ g.shape = load_unique s g.shape (page_at v.contents load_body) held.load_body (sym (k.pages load_body (k.front load_body (omega arith))) ∙ g.load) in
+    let same : s ≡ g.shape = load_unique s g.shape (page_at v.contents load_body) held.load_body
+    (sym (k.pages load_body (k.front load_body (omega arith))) ∙ g.load) in
     let body : HasJobBody s v.contents g.job g.passes g.every =
-    subst₂ (λ (t : Shape) (p : List ℕ). IsJobBody t p g.job g.passes g.every) (sym same) (k.pages job_body (k.front job_body (omega arith))) g.body in
+    subst₂ (λ (t : Shape) (p : List ℕ). IsJobBody t p g.job g.passes g.every) (sym same) (k.pages job_body (k.front job_body (omega arith)))
+    g.body in
     let passes_are = passes_unique s (page_at v.contents job_body) g.job job g.passes passes g.every every body held.body in
     let every_is = every_unique s (page_at v.contents job_body) g.job job g.passes passes g.every every body held.body in
     let gates = subst (λ (p : ℕ). GatesAre image p g.done) passes_are g.gates in
@@ -45,7 +48,8 @@ counted_stays P s job passes done every part slot v image gone held few k (inr g
     parts : slot < 2 → every < loads_of s
     parts h = elim (cases_lt every (loads_of s)) [
       | inl less ↦ less
-      | inr more ↦ (let most = held.body.fits.every_few in let two = held.counted.none (omega (arith, more, most)) in absurd (omega (arith, two, h)))
+      | inr more ↦ (let most = held.body.fits.every_few in let two = held.counted.none (omega (arith, more, most)) in absurd
+          (omega (arith, two, h)))
     ]
 
     no_less : (d p t : ℕ) → IsCounted s image every d p t → d ≡ done → part ≤ p

@@ -18,8 +18,10 @@ use Rattle.bm_control.proofs.UniqueLemmas.{job_unique}
 use Rattle.bm_control.specs.Pages.{job_body}
 
 -- the records of the last pass's area are the job's meaning of the input
-pub finished_means : (m : Machine) (v : RackView) → v.stands ≡ Some (dims_of m.shape) → HasSizes (dims_of m.shape) v.contents → Follows m v → m.done ≡ m.passes
-    → SameRecords (2 ^ m.shape.n) (record_at v.contents m.shape (area_after m.passes)) (meaning m.shape.n m.job (input_of v.contents m.shape))
+pub finished_means : (m : Machine) (v : RackView) → v.stands ≡ Some (dims_of m.shape) → HasSizes (dims_of m.shape) v.contents → Follows m v
+    → m.done ≡ m.passes
+    → SameRecords (2 ^ m.shape.n) (record_at v.contents m.shape (area_after m.passes))
+    (meaning m.shape.n m.job (input_of v.contents m.shape))
 finished_means m v stands sizes follows all x below =
     let s = m.shape in
     let held = follows.held in

@@ -1,5 +1,6 @@
 -- What stands after a run, and what it answers.
-use Rattle.std.proofs.Common.{Ok, Err, ◌≡◌, ◌≢◌, inl, inr, ℕ, ◌*◌, ◌%◌, ◌^◌, ◌<◌, ◌≤◌, List, length, replicate, slice_index, Some, refl, sym, ◌∙◌, ap, subst, arith}
+use Rattle.std.proofs.Common.{Ok, Err, ◌≡◌, ◌≢◌, inl, inr, ℕ, ◌*◌, ◌%◌, ◌^◌, ◌<◌, ◌≤◌, List, length, replicate, slice_index, Some, refl}
+use Rattle.std.proofs.Common.{sym, ◌∙◌, ap, subst, arith}
 use Rattle.std.proofs.lemmas.List.{length-replicate}
 use Rattle.std.specs.Fork.{slice_chunk}
 use Rattle.bm_base.specs.declared.dims.Dims.{Dims}
@@ -38,7 +39,8 @@ use Rattle.bm_job.specs.declared.machine.Machine.{Machine}
 use Rattle.bm_job.specs.Begins.{BeginAnswer, IsFresh, IsLoadedState, IsOpenState, OpensOnly, state_of}
 use Rattle.bm_job.specs.Follows.{Follows}
 use Rattle.bm_job.specs.Turns.{IsTurnRefusal}
-use Rattle.bm_job.specs.Runs.{IsJobsPage, IsWorkUnit, IsRunUnit, loads_left, load_rows, IsReportOf, RunAnswer, IsRunnable, RunDone, KeepsJobs, KeepsOpenJob, MovesFew, IsEnd}
+use Rattle.bm_job.specs.Runs.{IsJobsPage, IsWorkUnit, IsRunUnit, loads_left, load_rows, IsReportOf, RunAnswer, IsRunnable, RunDone}
+use Rattle.bm_job.specs.Runs.{KeepsJobs, KeepsOpenJob, MovesFew, IsEnd}
 use Rattle.bm_job.proofs.HeldLemmas.{has_bits}
 use Rattle.bm_job.proofs.DoneLemmas.{finished_means}
 use Rattle.bm_job.proofs.WorkUnitLemmas.{front_kept}
@@ -72,14 +74,16 @@ work_run s (block_unit disk place) (inr (inr is)) = absurd is
 -- ---- images
 
 -- an image after a call that changed nothing is one from before
-pub image_before : (old new : RackView) (dims : Dims) (image : Contents) → DirtiesOnly (λ u. ⊥) old new → IsImage dims new image → IsImage dims old image
+pub image_before : (old new : RackView) (dims : Dims) (image : Contents) → DirtiesOnly (λ u. ⊥) old new → IsImage dims new image
+    → IsImage dims old image
 image_before old new dims image w i = record {
   sizes = i.sizes;
   clean = λ u h. i.clean u (w.dirty u (λ e. e) h) ∙ w.contents u (λ e. e);
 }
 
 -- the first pages of an image after turns are as before them
-pub front_image : (m : Machine) (t : Shape) (old new : RackView) (dims : Dims) (image : Contents) (page : ℕ) → Follows m old → DirtiesOnly (IsWorkUnit t) old new
+pub front_image : (m : Machine) (t : Shape) (old new : RackView) (dims : Dims) (image : Contents) (page : ℕ) → Follows m old
+    → DirtiesOnly (IsWorkUnit t) old new
     → IsImage dims new image → page < 5 → page_at image page ≡ page_at old.contents page
 front_image m t old new dims image page follows w i early =
     i.clean (page_unit page) (w.dirty (page_unit page) (front_kept t page early) (follows.held.outside (page_unit page) (λ left is. is)))
@@ -100,7 +104,8 @@ begin_images s job passes every old new opens = record {
 }
 
 -- and where turns were taken
-pub end_images : (m : Machine) (s : Shape) (job : Job) (passes every : ℕ) (old mid new : RackView) → OpensOnly s job passes every old mid → IsFresh s job m
+pub end_images : (m : Machine) (s : Shape) (job : Job) (passes every : ℕ) (old mid new : RackView) → OpensOnly s job passes every old mid
+    → IsFresh s job m
     → Follows m mid → DirtiesOnly (IsWorkUnit m.shape) mid new → ((dims : Dims) → mid.stands ≡ Some dims → HasSizes dims mid.contents)
     → KeepsJobs s job passes every old new
 end_images m s job passes every old mid new opens fresh follows w sizes = record {
@@ -120,9 +125,16 @@ end_images m s job passes every old mid new opens fresh follows w sizes = record
 -- ---- answers
 
 -- what a report says
-pub report_told : (s : Shape) (job : Job) (m : Machine) (v : Contents) (passes every : ℕ) (r : RunReport) → BeginAnswer s job passes every v (Ok m)
+pub report_told : (s : Shape) (job : Job) (m : Machine) (v : Contents) (passes every : ℕ) (r : RunReport)
+    → BeginAnswer s job passes every v (Ok m)
     → r.passes ≡ m.passes → r.done_before ≡ m.done → r.part_before ≡ m.part → IsReportOf s job passes v r
-report_told s job m v passes every r (fresh, inl (loaded, start)) count done part = inl (loaded, count ∙ start.passes_are, done ∙ start.done, part ∙ start.part)
+report_told s job m v passes every r (fresh, inl (loaded, start)) count done part = inl (
+  loaded,
+  count ∙ start.passes_are,
+  done
+      ∙ start.done,
+  part ∙ start.part,
+)
 report_told s job m v passes every r (fresh, inr told) count done part =
     let shape : m.shape ≡ s = fresh.shape in
     let job_is : m.job ≡ job = fresh.job_is in
@@ -130,7 +142,8 @@ report_told s job m v passes every r (fresh, inr told) count done part =
     inr (m.every, m.slot, subst (λ (state : SlateState). StateAnswer v (Ok state)) same told)
 
 -- a refusal of a turn: no page of a job that was begun is wrong
-pub turn_refused : (s : Shape) (job : Job) (passes every : ℕ) (old new : RackView) (e : RunError) → IsTurnRefusal e → ((page : ℕ) → e ≢ BadPage page)
+pub turn_refused : (s : Shape) (job : Job) (passes every : ℕ) (old new : RackView) (e : RunError) → IsTurnRefusal e
+    → ((page : ℕ) → e ≢ BadPage page)
     → RunAnswer s job passes every old new (Err e)
 turn_refused s job passes every old new Failed is good = tt
 turn_refused s job passes every old new NotLoaded is good = absurd is
@@ -141,13 +154,16 @@ turn_refused s job passes every old new (BadPage page) is good = absurd (good pa
 -- ---- where a job can be run
 
 -- a shape that is loaded is the one that is told
-loaded_shape : (s t : Shape) (v : Contents) (state : SlateState) → StateAnswer v (Ok state) → IsLoadedState t state → HasLoadBody s v → t ≡ s
+loaded_shape : (s t : Shape) (v : Contents) (state : SlateState) → StateAnswer v (Ok state) → IsLoadedState t state → HasLoadBody s v
+    → t ≡ s
 loaded_shape s t v Closed told is body = absurd is
 loaded_shape s t v (Loaded u) told is body = sym is ∙ load_unique u s (page_at v load_body) told.1 body
-loaded_shape s t v (Working u job passes done every part slot) told is body = sym is ∙ load_unique u s (page_at v load_body) told.0.load_body body
+loaded_shape s t v (Working u job passes done every part slot) told is body = sym is
+    ∙ load_unique u s (page_at v load_body) told.0.load_body body
 
 -- and a job that is open
-open_job : (s : Shape) (job other : Job) (v : Contents) (state : SlateState) → StateAnswer v (Ok state) → IsOpenState other state → IsRunnable s job v → other ≡ job
+open_job : (s : Shape) (job other : Job) (v : Contents) (state : SlateState) → StateAnswer v (Ok state) → IsOpenState other state
+    → IsRunnable s job v → other ≡ job
 open_job s job other v Closed told is r = absurd is
 open_job s job other v (Loaded u) told is r = absurd is
 open_job s job other v (Working u mine passes done every part slot) told is r = elim r.job_gate [
@@ -159,12 +175,15 @@ open_job s job other v (Working u mine passes done every part slot) told is r = 
 ]
 
 -- nothing but the rack refuses a begin where the job can be run
-pub begin_complete : (s : Shape) (job : Job) (passes every : ℕ) (v : Contents) (e : RunError) → BeginAnswer s job passes every v (Err e) → IsRunnable s job v
+pub begin_complete : (s : Shape) (job : Job) (passes every : ℕ) (v : Contents) (e : RunError) → BeginAnswer s job passes every v (Err e)
+    → IsRunnable s job v
     → ((page : ℕ) → e ≢ BadPage page) → e ≡ Failed
 begin_complete s job passes every v Failed answer r good = refl
 begin_complete s job passes every v NotLoaded answer r good = absurd (answer r.load_gate)
-begin_complete s job passes every v OtherShape answer r good = absurd (answer.2.2 (loaded_shape s answer.2.0 v answer.0 answer.1 answer.2.1 r.load_body))
-begin_complete s job passes every v OtherJob answer r good = absurd (answer.3.2 (open_job s job answer.3.0 v answer.0 answer.1 answer.3.1 r))
+begin_complete s job passes every v OtherShape answer r good = absurd
+    (answer.2.2 (loaded_shape s answer.2.0 v answer.0 answer.1 answer.2.1 r.load_body))
+begin_complete s job passes every v OtherJob answer r good = absurd
+    (answer.3.2 (open_job s job answer.3.0 v answer.0 answer.1 answer.3.1 r))
 begin_complete s job passes every v (BadPage page) answer r good = absurd (good page refl)
 
 -- nor a turn
@@ -182,12 +201,14 @@ pub input_record : (s : Shape) (x : ℕ) → x < 2 ^ s.n → IsInputUnit (dims_o
 input_record s x below = (let area = IsAreaUnit-record s Input x below in let less = area.1 in omega (arith, less))
 
 -- the same input has the same records
-pub same_input_records : (s : Shape) (old new : RackView) → SameInput (dims_of s) old new → SameRecords (2 ^ s.n) (input_of new.contents s) (input_of old.contents s)
+pub same_input_records : (s : Shape) (old new : RackView) → SameInput (dims_of s) old new
+    → SameRecords (2 ^ s.n) (input_of new.contents s) (input_of old.contents s)
 same_input_records s old new same x below =
     ap (λ (bytes : List ℕ). slice_chunk bytes s.width (x % 2 ^ s.b)) (same.contents (record_unit s Input x) (input_record s x below))
 
 -- the records of a job whose passes are all done
-pub done_records : (s : Shape) (job : Job) (m : Machine) (old new : RackView) (passes : ℕ) → m.shape ≡ s → m.job ≡ job → m.passes ≡ passes → m.done ≡ m.passes
+pub done_records : (s : Shape) (job : Job) (m : Machine) (old new : RackView) (passes : ℕ) → m.shape ≡ s → m.job ≡ job → m.passes ≡ passes
+    → m.done ≡ m.passes
     → new.stands ≡ Some (dims_of s) → HasSizes (dims_of s) new.contents → Follows m new → SameInput (dims_of s) old new
     → SameRecords (2 ^ s.n) (record_at new.contents s (area_after passes)) (meaning s.n job (input_of old.contents s))
 done_records s job m old new passes shape job_is count end stands sizes follows input x below =
@@ -195,16 +216,21 @@ done_records s job m old new passes shape job_is count end stands sizes follows 
     (subst (λ (t : Shape). HasSizes (dims_of t) new.contents) (sym shape) sizes) follows end in
     let means : SameRecords (2 ^ s.n) (record_at new.contents s (area_after passes)) (meaning s.n job (input_of new.contents s)) =
     subst (λ (p : ℕ). SameRecords (2 ^ s.n) (record_at new.contents s (area_after p)) (meaning s.n job (input_of new.contents s))) count
-    (subst (λ (k : Job). SameRecords (2 ^ s.n) (record_at new.contents s (area_after m.passes)) (meaning s.n k (input_of new.contents s))) job_is
-    (subst (λ (t : Shape). SameRecords (2 ^ t.n) (record_at new.contents t (area_after m.passes)) (meaning t.n m.job (input_of new.contents t))) shape mine)) in
-    let bits : HasBits s.n job = subst (λ (t : Shape). HasBits t.n job) shape (subst (HasBits m.shape.n) job_is (has_bits m.shape m.job follows.held.body.fits.fits)) in
-    means x below ∙ meaning-same s.n job (input_of new.contents s) (input_of old.contents s) bits (same_input_records s old new input) x below
+    (subst (λ (k : Job). SameRecords (2 ^ s.n) (record_at new.contents s (area_after m.passes)) (meaning s.n k (input_of new.contents s)))
+    job_is
+    (subst (λ (t : Shape). SameRecords (2 ^ t.n) (record_at new.contents t (area_after m.passes))
+    (meaning t.n m.job (input_of new.contents t))) shape mine)) in
+    let bits : HasBits s.n job = subst (λ (t : Shape). HasBits t.n job) shape
+    (subst (HasBits m.shape.n) job_is (has_bits m.shape m.job follows.held.body.fits.fits)) in
+    means x below ∙ meaning-same s.n job (input_of new.contents s) (input_of old.contents s) bits (same_input_records s old new input) x
+    below
 
 -- all that a run that succeeded leaves
 pub run_done : (s : Shape) (job : Job) (start end : Machine) (passes every : ℕ) (r : RunReport) (old mid new : RackView)
     → BeginAnswer s job passes every old.contents (Ok start) → (HasOpenJob old.contents → DirtiesOnly (λ u. ⊥) old mid)
     → DirtiesOnly (IsWorkUnit start.shape) mid new → IsEnd start end → Follows end new → r.passes ≡ start.passes
-    → new.stands ≡ Some (dims_of s) → HasSizes (dims_of s) new.contents → SameInput (dims_of s) old new → RunDone s job passes every r old new
+    → new.stands ≡ Some (dims_of s) → HasSizes (dims_of s) new.contents → SameInput (dims_of s) old new
+    → RunDone s job passes every r old new
 run_done s job start end passes every r old mid new (fresh, told) unchanged w is follows count stands sizes input =
     let shape : end.shape ≡ s = is.same.shape ∙ fresh.shape in
     let job_is : end.job ≡ job = is.same.job ∙ fresh.job_is in
@@ -226,7 +252,8 @@ run_done s job start end passes every r old mid new (fresh, told) unchanged w is
         | inl at_start ↦ (count ∙ at_start.1.passes_are, is.same.every ∙ at_start.1.every_is)
         | inr opened ↦ absurd (closed opened.0.job_gate)
       ];
-      stored = λ opened. w.contents (page_unit job_body) (front_kept start.shape job_body (omega arith)) ∙ (unchanged opened).contents (page_unit job_body) (λ e. e);
+      stored = λ opened. w.contents (page_unit job_body) (front_kept start.shape job_body (omega arith))
+          ∙ (unchanged opened).contents (page_unit job_body) (λ e. e);
     }
 
 -- a count after calls that were fewer
@@ -235,15 +262,19 @@ raised_rows a b c k l same few more = omega (arith, same, few, more)
 
 -- the row calls are within the job's limit
 pub end_most : (s : Shape) (job : Job) (m : Machine) (old mid new : RackView) → IsFresh s job m → mid.moves ≡ old.moves
-    → mid.moves ≤ new.moves → new.moves ≤ raised mid.moves (load_rows m.shape (loads_left m)) → MovesFew (2 * stripes s * limit_of s job) old new
+    → mid.moves ≤ new.moves → new.moves ≤ raised mid.moves (load_rows m.shape (loads_left m))
+    → MovesFew (2 * stripes s * limit_of s job) old new
 end_most s job m old mid new fresh moves low few =
-    let rows : load_rows m.shape (loads_left m) ≤ 2 * stripes m.shape * limit_of m.shape m.job = rows_most m.shape m.passes (limit_of m.shape m.job) (loads_left m) m.keeps.passes_few (omega arith) in
-    let same : limit_of m.shape m.job ≡ limit_of s job = ap (λ (t : Shape). limit_of t m.job) fresh.shape ∙ ap (λ (k : Job). limit_of s k) fresh.job_is in
+    let rows : load_rows m.shape (loads_left m) ≤ 2 * stripes m.shape * limit_of m.shape m.job = rows_most m.shape m.passes
+    (limit_of m.shape m.job) (loads_left m) m.keeps.passes_few (omega arith) in
+    let same : limit_of m.shape m.job ≡ limit_of s job = ap (λ (t : Shape). limit_of t m.job) fresh.shape
+    ∙ ap (λ (k : Job). limit_of s k) fresh.job_is in
     let all : 2 * stripes m.shape * limit_of m.shape m.job ≡ 2 * stripes s * limit_of s job =
     ap (λ (t : Shape). 2 * stripes t * limit_of m.shape m.job) fresh.shape ∙ ap (λ (k : ℕ). 2 * stripes s * k) same in
     record {
       low = omega (arith, moves, low);
-      high = raised_rows old.moves mid.moves new.moves (load_rows m.shape (loads_left m)) (2 * stripes s * limit_of s job) moves few (omega (arith, rows, all));
+      high = raised_rows old.moves mid.moves new.moves (load_rows m.shape (loads_left m)) (2 * stripes s * limit_of s job) moves few
+          (omega (arith, rows, all));
     }
 
 -- a job's kind is no zero
@@ -258,7 +289,8 @@ keeps_open s dims old new stands sizes sound opened unchanged =
     let gate = open_settled old dims job_gate (omega arith) stands sizes opened in
     let zeros : slice_index (replicate 512 0) 10 ≡ 0 = refl in
     let body : Settled (λ p. slice_index p 10 ≢ 0) job_body old =
-    never_settled (λ p. slice_index p 10 ≢ 0) old dims job_body (replicate 512 0) (omega arith) (length-replicate {A = ℕ} 512 0) stands sizes (λ none. none zeros)
+    never_settled (λ p. slice_index p 10 ≢ 0) old dims job_body (replicate 512 0) (omega arith) (length-replicate {A = ℕ} 512 0) stands
+    sizes (λ none. none zeros)
     (λ d image is i. is_body d image is i) in
     let w = unchanged gate.holds in
     record {

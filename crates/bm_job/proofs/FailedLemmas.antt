@@ -25,7 +25,8 @@ use Rattle.bm_job.proofs.EndLemmas.{image_before, front_image, raised_rows}
 
 -- a begin that failed
 pub begin_failed : (s : Shape) (old new : RackView) → (HasOpenJob old.contents → DirtiesOnly (λ u. ⊥) old new) → new.stands ≡ old.stands
-    → new.moves ≡ old.moves → old.moves < 2 ^ 64 → ((dims : Dims) → old.stands ≡ Some dims → HasSizes dims old.contents) → RunFailed s old new
+    → new.moves ≡ old.moves → old.moves < 2 ^ 64 → ((dims : Dims) → old.stands ≡ Some dims → HasSizes dims old.contents)
+    → RunFailed s old new
 begin_failed s old new unchanged same moves well sizes = record {
   grows = λ least before dims image stands i gone is. elim (gate_cases (page_at old.contents job_gate)) [
     | inl opened ↦ before dims image (sym same ∙ stands) (image_before old new dims image (unchanged opened) i) gone is
@@ -44,7 +45,8 @@ load_rows_more : (s : Shape) (a b : ℕ) → a ≤ b → load_rows s a ≤ load_
 load_rows_more s a b h = mul-le-mul_left (2 * load_stripes s) h
 
 -- turns that failed
-pub end_failed : (m : Machine) (s : Shape) (job : Job) (old mid new : RackView) → IsFresh s job m → IsGone old.contents (loads_moved m) → Follows m mid
+pub end_failed : (m : Machine) (s : Shape) (job : Job) (old mid new : RackView) → IsFresh s job m → IsGone old.contents (loads_moved m)
+    → Follows m mid
     → DirtiesOnly (IsWorkUnit m.shape) mid new → mid.stands ≡ old.stands → mid.moves ≡ old.moves
     → InEveryImage (λ v. (gone : ℕ) → IsGone v gone → IsReached m gone mid new) new
     → ((dims : Dims) → old.stands ≡ Some dims → HasSizes dims old.contents) → RunFailed s old new
@@ -59,16 +61,20 @@ end_failed m s job old mid new fresh start follows w same moves reached sizes = 
       let r = reached dims image stands i gone is in
       let counted = r.counted in
       let first = fresh.load in
-      let page : page_at new.contents job_body ≡ page_at mid.contents job_body = w.contents (page_unit job_body) (front_kept m.shape job_body (omega arith)) in
+      let page : page_at new.contents job_body ≡ page_at mid.contents job_body = w.contents (page_unit job_body)
+      (front_kept m.shape job_body (omega arith)) in
       let here : HasJobBody s mid.contents other passes every = subst (λ (p : List ℕ). IsJobBody s p other passes every) page body in
-      let mine : HasJobBody s mid.contents m.job m.passes m.every = subst (λ (t : Shape). HasJobBody t mid.contents m.job m.passes m.every) fresh.shape follows.held.body in
+      let mine : HasJobBody s mid.contents m.job m.passes m.every = subst (λ (t : Shape). HasJobBody t mid.contents m.job m.passes m.every)
+      fresh.shape follows.held.body in
       let loads : every ≡ m.every = every_unique s (page_at mid.contents job_body) other m.job passes m.passes every m.every here mine in
       let rows : new.moves ≤ raised mid.moves (load_rows s (gone + m.every - loads_moved m)) =
       subst (λ (t : Shape). new.moves ≤ raised mid.moves (load_rows t (gone + m.every - loads_moved m))) fresh.shape r.rows in
-      raised_rows old.moves mid.moves new.moves (load_rows s (gone + m.every - loads_moved m)) (load_rows s (gone - least + every)) moves rows
+      raised_rows old.moves mid.moves new.moves (load_rows s (gone + m.every - loads_moved m)) (load_rows s (gone - least + every)) moves
+      rows
       (load_rows_more s (gone + m.every - loads_moved m) (gone - least + every) (omega (arith, a, counted, first, loads)));
   other_shape = λ t body differs.
-      let page : page_at mid.contents load_body ≡ load_page t = sym (w.contents (page_unit load_body) (front_kept m.shape load_body (omega arith))) ∙ body in
+      let page : page_at mid.contents load_body ≡ load_page t = sym
+      (w.contents (page_unit load_body) (front_kept m.shape load_body (omega arith))) ∙ body in
       absurd (differs (load_unique t m.shape (page_at mid.contents load_body) page follows.held.load_body ∙ fresh.shape));
   none = λ dims image stands i closed.
       absurd (closed (front_image m m.shape mid new dims image job_gate follows w i (omega arith) ∙ follows.held.job_gate));
@@ -80,11 +86,15 @@ end_failed m s job old mid new fresh start follows w same moves reached sizes = 
         before dims old.contents here (image_self old dims (sizes dims here)) (loads_moved m) start
 
 -- how far a failed run came, by the sure progress before and after it
-pub failed_sure : (s : Shape) (old new : RackView) (before after : ℕ) → RunFailed s old new → IsSure old before → IsSure new after → before ≤ after
-failed_sure s old new before after failed one two = failed.grows before one.least two.dims two.image two.stands two.is_image after two.reached
+pub failed_sure : (s : Shape) (old new : RackView) (before after : ℕ) → RunFailed s old new → IsSure old before → IsSure new after
+    → before ≤ after
+failed_sure s old new before after failed one two = failed.grows before one.least two.dims two.image two.stands two.is_image after
+    two.reached
 
 -- and the row calls that it made
-pub failed_rows : (s : Shape) (job : Job) (passes every : ℕ) (old new : RackView) (before after : ℕ) → RunFailed s old new → InEveryImage HasOpenJob new
-    → HasJobBody s new.contents job passes every → IsSure old before → IsSure new after → new.moves ≤ raised old.moves (load_rows s (after - before + every))
+pub failed_rows : (s : Shape) (job : Job) (passes every : ℕ) (old new : RackView) (before after : ℕ) → RunFailed s old new
+    → InEveryImage HasOpenJob new
+    → HasJobBody s new.contents job passes every → IsSure old before → IsSure new after
+    → new.moves ≤ raised old.moves (load_rows s (after - before + every))
 failed_rows s job passes every old new before after failed opened body one two =
     failed.rows opened job passes every body before one.least two.dims two.image two.stands two.is_image after two.reached

@@ -1,5 +1,6 @@
 -- A job that is open with its progress, while a load of its pass under way is moved.
-use Rattle.std.proofs.Common.{◌≡◌, ◌≢◌, ℕ, ◌+◌, ◌-◌, ◌*◌, ◌%◌, ◌^◌, ◌<◌, ◌≤◌, Bool, false, Some, List, length, take, All, get_or, sym, ◌∙◌, ap, subst, arith, get_or-take, length-take}
+use Rattle.std.proofs.Common.{◌≡◌, ◌≢◌, ℕ, ◌+◌, ◌-◌, ◌*◌, ◌%◌, ◌^◌, ◌<◌, ◌≤◌, Bool, false, Some, List, length, take, All, get_or, sym, ◌∙◌}
+use Rattle.std.proofs.Common.{ap, subst, arith, get_or-take, length-take}
 use Rattle.std.proofs.Math.Nat.{mul_comm, mul-le-mul_right}
 use Rattle.std.specs.Fork.{slice_chunk}
 use Rattle.bm_base.specs.declared.dims.Dims.{Dims}
@@ -28,7 +29,8 @@ use Rattle.bm_stripe.proofs.UnitLemmas.{IsAreaUnit-record, IsAreaUnit-apart}
 use Rattle.bm_pass.specs.LoadMove.{IsTargetUnit}
 use Rattle.bm_pass.proofs.PassLemmas.{IsTargetUnit-area, targets_apart, image_below_records}
 use Rattle.bm_control.specs.Bodies.{IsJobBody, IsPassBody, IsPartBody}
-use Rattle.bm_control.specs.Pages.{load_gate, job_gate, load_body, job_body, pass_body, pass_gate, slot_body, slot_gate, HasOpenLoad, HasOpenJob, HasLoadBody, HasJobBody}
+use Rattle.bm_control.specs.Pages.{load_gate, job_gate, load_body, job_body, pass_body, pass_gate, slot_body, slot_gate, HasOpenLoad}
+use Rattle.bm_control.specs.Pages.{HasOpenJob, HasLoadBody, HasJobBody}
 use Rattle.bm_control.specs.Consistent.{input_of, GatesAre, SlotStands, JobStands, IsConsistent}
 use Rattle.bm_control.specs.Progress.{Counts, IsCounted}
 use Rattle.bm_control.specs.Sound.{IsSound}
@@ -47,12 +49,14 @@ pub record StandsAt (s : Shape) (v : Contents) (passes done every : ℕ) : Type 
   pub every_is : job.every ≡ every
   pub done_is : job.done ≡ done
 
-pub stands_at : (s : Shape) (job : Job) (passes done every part slot : ℕ) (v : RackView) → v.stands ≡ Some (dims_of s) → HasSizes (dims_of s) v.contents
+pub stands_at : (s : Shape) (job : Job) (passes done every part slot : ℕ) (v : RackView) → v.stands ≡ Some (dims_of s)
+    → HasSizes (dims_of s) v.contents
     → IsHeld s job passes done every part slot v → StandsAt s v.contents passes done every
 stands_at s job passes done every part slot v stands sizes held =
     let c = held.sound.consistent (dims_of s) stands (dims_of s) v.contents stands (image_self v (dims_of s) sizes) in
     let j = c.job held.job_gate s held.load_body in
-    let passes_are : length j.forms ≡ passes = passes_unique s (page_at v.contents job_body) j.job job (length j.forms) passes j.every every j.body held.body in
+    let passes_are : length j.forms ≡ passes = passes_unique s (page_at v.contents job_body) j.job job (length j.forms) passes j.every every
+    j.body held.body in
     record {
       job = j;
       passes_are = passes_are;
@@ -66,7 +70,8 @@ pub record KeepsJob (s : Shape) (done part : ℕ) (a b : Contents) : Type 0 wher
   pub input : SameRecords (2 ^ s.n) (record_at b s Input) (record_at a s Input)
   pub work : SameRecords (2 ^ s.n) (record_at b s (area_after done)) (record_at a s (area_after done))
   pub counted : (form : PassForm) → IsNext s done a form → (x : ℕ) → x < part * 2 ^ s.m
-      → record_at b s (area_after (done + 1)) (affine_image form.map.map x) ≡ record_at a s (area_after (done + 1)) (affine_image form.map.map x)
+      → record_at b s (area_after (done + 1)) (affine_image form.map.map x) ≡ record_at a s (area_after (done + 1))
+      (affine_image form.map.map x)
 
 -- passes of a shape, some of them
 pub forms_fit : (s : Shape) (forms : List PassForm) → All (IsOfShape s) forms → All (FitsBits s.n) forms
@@ -86,7 +91,8 @@ has_bits s Walsh fits = tt
 
 -- an open slot still stands
 slot_works_on : (s : Shape) (part : ℕ) (a b : Contents) (j : JobStands s a) (slot : ℕ) → KeepsJob s j.done part a b
-    → ((loads : ℕ) → Counts s a j.done slot loads → loads ≤ part) → IsOpenGate (page_at a (slot_gate slot)) → SlotStands s a j.forms j.done slot
+    → ((loads : ℕ) → Counts s a j.done slot loads → loads ≤ part) → IsOpenGate (page_at a (slot_gate slot))
+    → SlotStands s a j.forms j.done slot
     → SlotStands s b j.forms j.done slot
 slot_works_on s part a b j slot k most gate t = record {
   pass = t.pass;
@@ -101,8 +107,10 @@ slot_works_on s part a b j slot k most gate t = record {
       }) in
       let more : t.loads * 2 ^ s.m ≤ part * 2 ^ s.m = mul-le-mul_right (2 ^ s.m) few in
       let body = j.bodies j.done form is in
-      let here : record_at b s (area_after t.pass) (affine_image form.map.map x) ≡ record_at a s (area_after t.pass) (affine_image form.map.map x) =
-      subst (λ (p : ℕ). record_at b s (area_after p) (affine_image form.map.map x) ≡ record_at a s (area_after p) (affine_image form.map.map x)) (sym now)
+      let here : record_at b s (area_after t.pass) (affine_image form.map.map x) ≡ record_at a s (area_after t.pass)
+      (affine_image form.map.map x) =
+      subst (λ (p : ℕ). record_at b s (area_after p) (affine_image form.map.map x) ≡ record_at a s (area_after p)
+      (affine_image form.map.map x)) (sym now)
       (k.counted form body x (omega (arith, below, more))) in
       here ∙ t.moved now form is x below
       ∙ sym (all_passed-same s.n (take t.pass j.forms) (input_of b s) (input_of a s) (take_fit s j.forms t.pass j.of_shape) k.input
@@ -119,7 +127,8 @@ job_works_on s part a b j k most = record {
   body = subst (λ (p : List ℕ). IsJobBody s p j.job (length j.forms) j.every) (sym (k.pages job_body)) j.body;
   of_shape = j.of_shape;
   bodies = λ i pass is. subst (λ (p : List ℕ). IsPassBody s i p pass) (sym (k.pages (pass_body i))) (j.bodies i pass is);
-  means = λ x below. all_passed-same s.n j.forms (input_of b s) (input_of a s) (forms_fit s j.forms j.of_shape) k.input x below ∙ j.means x below
+  means = λ x below. all_passed-same s.n j.forms (input_of b s) (input_of a s) (forms_fit s j.forms j.of_shape) k.input x below
+      ∙ j.means x below
       ∙ sym (meaning-same s.n j.job (input_of b s) (input_of a s) (has_bits s j.job j.body.fits.fits) k.input x below);
   done = j.done;
   gates = record {
@@ -128,20 +137,29 @@ job_works_on s part a b j k most = record {
     closed = λ i from h gate. j.gates.closed i from h (sym (k.pages (pass_gate i)) ∙ gate);
   };
   work = λ x below. k.work x below ∙ j.work x below
-      ∙ sym (all_passed-same s.n (take j.done j.forms) (input_of b s) (input_of a s) (take_fit s j.forms j.done j.of_shape) k.input x below);
+      ∙ sym (all_passed-same s.n (take j.done j.forms) (input_of b s) (input_of a s) (take_fit s j.forms j.done j.of_shape) k.input x
+      below);
   slots = λ less slot h gate.
       let was = sym (k.pages (slot_gate slot)) ∙ gate in
       slot_works_on s part a b j slot k (λ loads. most less slot loads h) was (j.slots less slot h was);
 }
 
 -- contents of which so much stays are consistent still
-consistent_works_on : (s : Shape) (job : Job) (passes done every part slot : ℕ) (v : RackView) (dims : Dims) (image : Contents) → IsHeld s job passes done every part slot v
-    → (at : StandsAt s v.contents passes done every) → KeepsJob s done part v.contents image → IsConsistent dims v.contents → IsConsistent dims image
+consistent_works_on : (s : Shape) (job : Job) (passes done every part slot : ℕ) (v : RackView) (dims : Dims) (image : Contents)
+    → IsHeld s job passes done every part slot v
+    → (at : StandsAt s v.contents passes done every) → KeepsJob s done part v.contents image → IsConsistent dims v.contents
+    → IsConsistent dims image
 consistent_works_on s job passes done every part slot v dims image held at k c = record {
-  loaded = λ gate. (let l = c.loaded (sym (k.pages load_gate) ∙ gate) in record { shape = l.shape; body = k.pages load_body ∙ l.body; dims_are = l.dims_are });
+  loaded = λ gate. (let l = c.loaded (sym (k.pages load_gate) ∙ gate) in record {
+    shape = l.shape;
+    body = k.pages load_body
+        ∙ l.body;
+    dims_are = l.dims_are;
+  });
   after_load = λ gate. k.pages load_gate ∙ c.after_load (sym (k.pages job_gate) ∙ gate);
   job = λ gate t body.
-      subst (λ (u : Shape). JobStands u image) (load_unique s t (page_at v.contents load_body) held.load_body (sym (k.pages load_body) ∙ body))
+      subst (λ (u : Shape). JobStands u image) (load_unique s t (page_at v.contents load_body) held.load_body (sym (k.pages load_body)
+      ∙ body))
       (job_works_on s part v.contents image at.job (subst (λ (d : ℕ). KeepsJob s d part v.contents image) (sym at.done_is) k)
       (λ less other loads h counts.
       (held.counted.most (subst (λ (e : ℕ). e < loads_of s) at.every_is less) other loads h
@@ -154,7 +172,8 @@ record_frozen : (s : Shape) (area : Area) (x : ℕ) (a b : Contents) → unit_at
 record_frozen s area x a b same = ap (λ (bytes : List ℕ). slice_chunk bytes s.width (x % 2 ^ s.b)) same
 
 -- a unit that is clean and not written is in every image as before
-unit_frozen : (P : RackUnit → Type 0) (old new : RackView) (dims : Dims) (image : Contents) (u : RackUnit) → ChangesOnly P old new → IsImage dims new image → ¬ P u
+unit_frozen : (P : RackUnit → Type 0) (old new : RackView) (dims : Dims) (image : Contents) (u : RackUnit) → ChangesOnly P old new
+    → IsImage dims new image → ¬ P u
     → old.dirty u ≡ false → unit_at image u ≡ unit_at old.contents u
 unit_frozen P old new dims image u only i not clean = i.clean u (only.dirty u not ∙ clean) ∙ only.contents u not
 
@@ -171,11 +190,14 @@ outside_target : (s : Shape) (form : PassForm) (done load : ℕ) (u : RackUnit) 
 outside_target s form done load u of not is = not (IsTargetUnit-area s form (area_after (done + 1)) load u of is)
 
 -- a record of another area is outside the target area
-record_outside : (s : Shape) (area : Area) (done x : ℕ) → area ≢ area_after (done + 1) → x < 2 ^ s.n → ¬ IsAreaUnit s (area_after (done + 1)) (record_unit s area x)
-record_outside s area done x other below is = other (IsAreaUnit-apart s area (area_after (done + 1)) (record_unit s area x) (IsAreaUnit-record s area x below) is)
+record_outside : (s : Shape) (area : Area) (done x : ℕ) → area ≢ area_after (done + 1) → x < 2 ^ s.n
+    → ¬ IsAreaUnit s (area_after (done + 1)) (record_unit s area x)
+record_outside s area done x other below is = other
+    (IsAreaUnit-apart s area (area_after (done + 1)) (record_unit s area x) (IsAreaUnit-record s area x below) is)
 
 -- the load that is moved is none of those counted
-counted_apart : (s : Shape) (done part load : ℕ) (form other : PassForm) (v : Contents) (x : ℕ) → IsNext s done v form → IsNext s done v other → part ≤ load
+counted_apart : (s : Shape) (done part load : ℕ) (form other : PassForm) (v : Contents) (x : ℕ) → IsNext s done v form
+    → IsNext s done v other → part ≤ load
     → load < 2 ^ (s.n - s.m) → x < part * 2 ^ s.m
     → ¬ IsTargetUnit s form (area_after (done + 1)) load (record_unit s (area_after (done + 1)) (affine_image other.map.map x))
 counted_apart s done part load form other v x next also few inside below is =
@@ -184,9 +206,11 @@ counted_apart s done part load form other v x next also few inside below is =
     (ap (λ f. affine_image f x) (pass_map_unique s done (page_at v (pass_body done)) other form also next)) is)
 
 -- while a load is moved
-keeps_job : (s : Shape) (job : Job) (passes done every part slot load : ℕ) (form : PassForm) (old new : RackView) (dims : Dims) (image : Contents)
+keeps_job : (s : Shape) (job : Job) (passes done every part slot load : ℕ) (form : PassForm) (old new : RackView) (dims : Dims)
+    (image : Contents)
     → IsHeld s job passes done every part slot old → IsNext s done old.contents form → part ≤ load → load < 2 ^ (s.n - s.m)
-    → ChangesOnly (IsTargetUnit s form (area_after (done + 1)) load) old new → IsImage dims new image → KeepsJob s done part old.contents image
+    → ChangesOnly (IsTargetUnit s form (area_after (done + 1)) load) old new → IsImage dims new image
+    → KeepsJob s done part old.contents image
 keeps_job s job passes done every part slot load form old new dims image held next few inside only i = record {
   pages = λ k. frozen (page_unit k) (λ is. is);
   input = λ x below. record_frozen s Input x old.contents image
@@ -207,8 +231,10 @@ pub input_outside : (s : Shape) (done : ℕ) (u : RackUnit) → IsInputUnit (dim
 input_outside s done u input is = target_no_input done (sym (IsAreaUnit-apart s Input (area_after (done + 1)) u (input_unit s u input) is))
 
 -- the rack is sound
-sound_working : (s : Shape) (job : Job) (passes done every part slot load : ℕ) (form : PassForm) (old new : RackView) → old.stands ≡ Some (dims_of s)
-    → HasSizes (dims_of s) old.contents → IsHeld s job passes done every part slot old → IsNext s done old.contents form → part ≤ load → load < 2 ^ (s.n - s.m)
+sound_working : (s : Shape) (job : Job) (passes done every part slot load : ℕ) (form : PassForm) (old new : RackView)
+    → old.stands ≡ Some (dims_of s)
+    → HasSizes (dims_of s) old.contents → IsHeld s job passes done every part slot old → IsNext s done old.contents form → part ≤ load
+    → load < 2 ^ (s.n - s.m)
     → ChangesOnly (IsTargetUnit s form (area_after (done + 1)) load) old new → IsSound new
 sound_working s job passes done every part slot load form old new stands sizes held next few inside only = record {
   consistent = λ dims is dims' image is' i.
@@ -222,13 +248,17 @@ sound_working s job passes done every part slot load form old new stands sizes h
 }
 
 -- the next pass is as before
-pub next_kept : (s : Shape) (done : ℕ) (a b : Contents) (form : PassForm) → ((k : ℕ) → page_at b k ≡ page_at a k) → IsNext s done b form → IsNext s done a form
+pub next_kept : (s : Shape) (done : ℕ) (a b : Contents) (form : PassForm) → ((k : ℕ) → page_at b k ≡ page_at a k) → IsNext s done b form
+    → IsNext s done a form
 next_kept s done a b form pages next = subst (λ (p : List ℕ). IsPassBody s done p form) (pages (pass_body done)) next
 
 -- and the job is open with the progress as before, whether the move fails or not
-pub held_working : (s : Shape) (job : Job) (passes done every part slot load : ℕ) (form : PassForm) (old new : RackView) → old.stands ≡ Some (dims_of s)
-    → HasSizes (dims_of s) old.contents → IsHeld s job passes done every part slot old → IsNext s done old.contents form → done < passes → part ≤ load
-    → load < 2 ^ (s.n - s.m) → ChangesOnly (IsTargetUnit s form (area_after (done + 1)) load) old new → IsHeld s job passes done every part slot new
+pub held_working : (s : Shape) (job : Job) (passes done every part slot load : ℕ) (form : PassForm) (old new : RackView)
+    → old.stands ≡ Some (dims_of s)
+    → HasSizes (dims_of s) old.contents → IsHeld s job passes done every part slot old → IsNext s done old.contents form → done < passes
+    → part ≤ load
+    → load < 2 ^ (s.n - s.m) → ChangesOnly (IsTargetUnit s form (area_after (done + 1)) load) old new
+    → IsHeld s job passes done every part slot new
 held_working s job passes done every part slot load form old new stands sizes held next left few inside only = record {
   sound = sound_working s job passes done every part slot load form old new stands sizes held next few inside only;
   attached = only.attached ∙ held.attached;
@@ -253,13 +283,15 @@ held_working s job passes done every part slot load form old new stands sizes he
     page : (k : ℕ) → page_at new.contents k ≡ page_at old.contents k
     page k = only.contents (page_unit k) (outside_target s form done load (page_unit k) next.of_shape (λ is. is))
 
-    counts_kept : (s : Shape) (done slot loads : ℕ) (a b : Contents) → ((k : ℕ) → page_at b k ≡ page_at a k) → Counts s a done slot loads → Counts s b done slot loads
+    counts_kept : (s : Shape) (done slot loads : ℕ) (a b : Contents) → ((k : ℕ) → page_at b k ≡ page_at a k) → Counts s a done slot loads
+        → Counts s b done slot loads
     counts_kept s done slot loads a b pages c = record {
       opened = pages (slot_gate slot) ∙ c.opened;
       body = subst (λ (p : List ℕ). IsPartBody s p (done + 1) loads) (sym (pages (slot_body slot))) c.body;
     }
 
-    counted_kept : (s : Shape) (every done part slot : ℕ) (a b : Contents) → ((k : ℕ) → page_at b k ≡ page_at a k) → IsCounted s a every done part slot
+    counted_kept : (s : Shape) (every done part slot : ℕ) (a b : Contents) → ((k : ℕ) → page_at b k ≡ page_at a k)
+        → IsCounted s a every done part slot
         → IsCounted s b every done part slot
     counted_kept s every done part slot a b pages c = record {
       none = c.none;
@@ -271,13 +303,15 @@ held_working s job passes done every part slot load form old new stands sizes he
     }
 
 -- nothing but counts changed
-pub held_state : (s : Shape) (job : Job) (passes done every part slot : ℕ) (old new : RackView) → SameState old new → IsHeld s job passes done every part slot old
+pub held_state : (s : Shape) (job : Job) (passes done every part slot : ℕ) (old new : RackView) → SameState old new
+    → IsHeld s job passes done every part slot old
     → IsHeld s job passes done every part slot new
 held_state s job passes done every part slot old new same held = record {
   sound = sound_same old new same held.sound;
   attached = same.attached ∙ held.attached;
   outside = λ u not. ap (λ (f : RackUnit → Bool). f u) same.dirty ∙ held.outside u not;
-  durable = λ form next x below. ap (λ (f : RackUnit → Bool). f (record_unit s (area_after (done + 1)) (affine_image form.map.map x))) same.dirty
+  durable = λ form next x below. ap (λ (f : RackUnit → Bool). f (record_unit s (area_after (done + 1)) (affine_image form.map.map x)))
+      same.dirty
       ∙ held.durable form (subst (λ (v : Contents). IsNext s done v form) same.contents next) x below;
   load_body = subst (λ (v : Contents). HasLoadBody s v) (sym same.contents) held.load_body;
   load_gate = subst (λ (v : Contents). HasOpenLoad v) (sym same.contents) held.load_gate;

@@ -1,5 +1,6 @@
 -- How many calls the turns of a machine make.
-use Rattle.std.proofs.Common.{◌≡◌, ◌≢◌, inl, inr, ℕ, ◌+◌, ◌-◌, ◌*◌, ◌/◌, ◌%◌, ◌<◌, ◌≤◌, Option, Some, None, IsSome, refl, sym, ◌∙◌, ap, subst, arith}
+use Rattle.std.proofs.Common.{◌≡◌, ◌≢◌, inl, inr, ℕ, ◌+◌, ◌-◌, ◌*◌, ◌/◌, ◌%◌, ◌<◌, ◌≤◌, Option, Some, None, IsSome, refl, sym, ◌∙◌, ap}
+use Rattle.std.proofs.Common.{subst, arith}
 use Rattle.std.specs.Int.{div_ceil}
 use Rattle.std.proofs.lemmas.Bool.{false≢true, cases_eq, eq-eqb, ne_eqb}
 use Rattle.std.proofs.lemmas.Grind.{div_ceil_times}
@@ -28,7 +29,8 @@ place_next every t some none =
     elim (cases_eq a 0) [
       | inl empty ↦ (let e : a * every ≡ 0 * every = ap (λ (k : ℕ). k * every) empty in absurd (omega (arith, at, e, none)))
       | inr more ↦
-          let split : a * every ≡ (a - 1) * every + every = (let e : a ≡ (a - 1) + 1 = omega (arith, more) in ap (λ (k : ℕ). k * every) e ∙ (let f : ((a - 1) + 1) * every ≡ (a - 1) * every + every = omega arith in f)) in
+          let split : a * every ≡ (a - 1) * every + every = (let e : a ≡ (a - 1) + 1 = omega (arith, more) in ap (λ (k : ℕ). k * every) e
+          ∙ (let f : ((a - 1) + 1) * every ≡ (a - 1) * every + every = omega arith in f)) in
           let here : t ≡ (a - 1) * every + (every - 1) = omega (arith, at, split, none, some) in
           let down : t / every ≡ a - 1 = ap (λ (k : ℕ). k / every) here ∙ div-mul-add (a - 1) every (every - 1) (omega (arith, some)) in
           omega (arith, down, more)
@@ -94,16 +96,32 @@ last_syncs : (m : Machine) → IsLastLoad m → durable_syncs m ≡ 2
 last_syncs m last = rw (eq-eqb (m.load + 1) (loads_of m.shape) last) refl
 
 marked_pages : (m : Machine) → m.load + 1 < loads_of m.shape → (m.load + 1) % m.every ≡ 0 → durable_pages m ≡ 4
-marked_pages m within none = rw (ne_eqb (m.load + 1) (loads_of m.shape) (λ e. omega (arith, e, within)), eq-eqb ((m.load + 1) % m.every) 0 none) refl
+marked_pages m within none = rw (
+  ne_eqb (m.load + 1) (loads_of m.shape) (λ e. omega (arith, e, within)),
+  eq-eqb ((m.load + 1) % m.every) 0
+      none,
+) refl
 
 marked_syncs : (m : Machine) → m.load + 1 < loads_of m.shape → (m.load + 1) % m.every ≡ 0 → durable_syncs m ≡ 3
-marked_syncs m within none = rw (ne_eqb (m.load + 1) (loads_of m.shape) (λ e. omega (arith, e, within)), eq-eqb ((m.load + 1) % m.every) 0 none) refl
+marked_syncs m within none = rw (
+  ne_eqb (m.load + 1) (loads_of m.shape) (λ e. omega (arith, e, within)),
+  eq-eqb ((m.load + 1) % m.every) 0
+      none,
+) refl
 
 other_pages : (m : Machine) → m.load + 1 < loads_of m.shape → (m.load + 1) % m.every ≢ 0 → durable_pages m ≡ 0
-other_pages m within some = rw (ne_eqb (m.load + 1) (loads_of m.shape) (λ e. omega (arith, e, within)), ne_eqb ((m.load + 1) % m.every) 0 some) refl
+other_pages m within some = rw (
+  ne_eqb (m.load + 1) (loads_of m.shape) (λ e. omega (arith, e, within)),
+  ne_eqb ((m.load + 1) % m.every) 0
+      some,
+) refl
 
 other_syncs : (m : Machine) → m.load + 1 < loads_of m.shape → (m.load + 1) % m.every ≢ 0 → durable_syncs m ≡ 0
-other_syncs m within some = rw (ne_eqb (m.load + 1) (loads_of m.shape) (λ e. omega (arith, e, within)), ne_eqb ((m.load + 1) % m.every) 0 some) refl
+other_syncs m within some = rw (
+  ne_eqb (m.load + 1) (loads_of m.shape) (λ e. omega (arith, e, within)),
+  ne_eqb ((m.load + 1) % m.every) 0
+      some,
+) refl
 
 -- the three turns that there are
 pub data TurnKind (m : Machine) : Type 0 where
@@ -133,11 +151,15 @@ mark_few m within none =
     omega (arith, below, next)
 
 -- the page calls of a turn are within those of the passes
-turn_pages_pass : (m : Machine) (kind : TurnKind m) → pages_spent m + (form_pages m.form + durable_pages m) ≤ (m.done + 1) * (2 + 4 * marks_of m.shape m.every)
+turn_pages_pass : (m : Machine) (kind : TurnKind m)
+    → pages_spent m + (form_pages m.form + durable_pages m) ≤ (m.done + 1) * (2 + 4 * marks_of m.shape m.every)
 unfolding pages_spent pages_at
-turn_pages_pass m (last_load last) = (let a = read_once m.form in let b = last_pages m last in let c = place_few m in omega (arith, a, b, c))
-turn_pages_pass m (marked_load within none) = (let a = read_once m.form in let b = marked_pages m within none in let c = mark_few m within none in omega (arith, a, b, c))
-turn_pages_pass m (other_load within some) = (let a = read_once m.form in let b = other_pages m within some in let c = place_few m in omega (arith, a, b, c))
+turn_pages_pass m (last_load last) = (let a = read_once m.form in let b = last_pages m last in let c = place_few m in omega
+    (arith, a, b, c))
+turn_pages_pass m (marked_load within none) = (let a = read_once m.form in let b = marked_pages m within none in let c = mark_few m within
+    none in omega (arith, a, b, c))
+turn_pages_pass m (other_load within some) = (let a = read_once m.form in let b = other_pages m within some in let c = place_few m in omega
+    (arith, a, b, c))
 
 -- and so are its syncs
 turn_syncs_pass : (m : Machine) (kind : TurnKind m) → syncs_spent m + durable_syncs m ≤ (m.done + 1) * (2 + 3 * marks_of m.shape m.every)
@@ -147,16 +169,19 @@ turn_syncs_pass m (marked_load within none) = (let b = marked_syncs m within non
 turn_syncs_pass m (other_load within some) = (let b = other_syncs m within some in let c = place_few m in omega (arith, b, c))
 
 -- and those of the job
-pub turn_pages_few : (m : Machine) → m.done < m.passes → pages_spent m + (form_pages m.form + durable_pages m) ≤ turn_pages m.shape m.passes m.every
+pub turn_pages_few : (m : Machine) → m.done < m.passes → pages_spent m + (form_pages m.form + durable_pages m) ≤ turn_pages m.shape m.passes
+    m.every
 turn_pages_few m left =
     let a = turn_pages_pass m (turn_kind m) in
-    let b : (m.done + 1) * (2 + 4 * marks_of m.shape m.every) ≤ m.passes * (2 + 4 * marks_of m.shape m.every) = mul-le-mul_right (2 + 4 * marks_of m.shape m.every) (omega (arith, left)) in
+    let b : (m.done + 1) * (2 + 4 * marks_of m.shape m.every) ≤ m.passes * (2 + 4 * marks_of m.shape m.every) = mul-le-mul_right
+    (2 + 4 * marks_of m.shape m.every) (omega (arith, left)) in
     omega (arith, a, b)
 
 pub turn_syncs_few : (m : Machine) → m.done < m.passes → syncs_spent m + durable_syncs m ≤ turn_syncs m.shape m.passes m.every
 turn_syncs_few m left =
     let a = turn_syncs_pass m (turn_kind m) in
-    let b : (m.done + 1) * (2 + 3 * marks_of m.shape m.every) ≤ m.passes * (2 + 3 * marks_of m.shape m.every) = mul-le-mul_right (2 + 3 * marks_of m.shape m.every) (omega (arith, left)) in
+    let b : (m.done + 1) * (2 + 3 * marks_of m.shape m.every) ≤ m.passes * (2 + 3 * marks_of m.shape m.every) = mul-le-mul_right
+    (2 + 3 * marks_of m.shape m.every) (omega (arith, left)) in
     omega (arith, a, b)
 
 -- the first place
@@ -170,7 +195,8 @@ end_pages_few m end =
     let a = read_once m.form in
     let rest = m.keeps.rest end in
     let place : m.load / m.every ≡ 0 = ap (λ (k : ℕ). k / m.every) rest ∙ place_zero m.every m.keeps.every_some in
-    let all : m.done * (2 + 4 * marks_of m.shape m.every) ≡ m.passes * (2 + 4 * marks_of m.shape m.every) = ap (λ (k : ℕ). k * (2 + 4 * marks_of m.shape m.every)) end in
+    let all : m.done * (2 + 4 * marks_of m.shape m.every) ≡ m.passes * (2 + 4 * marks_of m.shape m.every) = ap
+    (λ (k : ℕ). k * (2 + 4 * marks_of m.shape m.every)) end in
     omega (arith, a, place, all)
 
 -- and its syncs
@@ -179,74 +205,91 @@ unfolding syncs_spent syncs_at
 end_syncs_few m end =
     let rest = m.keeps.rest end in
     let place : m.load / m.every ≡ 0 = ap (λ (k : ℕ). k / m.every) rest ∙ place_zero m.every m.keeps.every_some in
-    let all : m.done * (2 + 3 * marks_of m.shape m.every) ≡ m.passes * (2 + 3 * marks_of m.shape m.every) = ap (λ (k : ℕ). k * (2 + 3 * marks_of m.shape m.every)) end in
+    let all : m.done * (2 + 3 * marks_of m.shape m.every) ≡ m.passes * (2 + 3 * marks_of m.shape m.every) = ap
+    (λ (k : ℕ). k * (2 + 3 * marks_of m.shape m.every)) end in
     omega (arith, place, all)
 
 -- what the next machine has spent, by this one's shape
-next_pages : (old new : Machine) → SameJob old new → pages_spent new ≡ pages_at (marks_of old.shape old.every) new.done (form_read new.form) (new.load / old.every)
+next_pages : (old new : Machine) → SameJob old new → pages_spent new ≡ pages_at (marks_of old.shape old.every) new.done (form_read new.form)
+    (new.load / old.every)
 unfolding pages_spent
 next_pages old new same = rw (same.shape, same.every) refl
 
 -- and the syncs
-next_syncs : (old new : Machine) → SameJob old new → syncs_spent new ≡ syncs_at (marks_of old.shape old.every) new.done (new.load / old.every)
+next_syncs : (old new : Machine) → SameJob old new → syncs_spent new ≡ syncs_at (marks_of old.shape old.every) new.done
+    (new.load / old.every)
 unfolding syncs_spent
 next_syncs old new same = rw (same.shape, same.every) refl
 
 -- a turn's page calls are paid for by the next machine's place
 pub turn_pages_paid : (old new : Machine) → IsNextOf old new → pages_spent old + (form_pages old.form + durable_pages old) ≤ pages_spent new
 unfolding pages_spent pages_at
-turn_pages_paid old new n = subst (λ (k : ℕ). pages_spent old + (form_pages old.form + durable_pages old) ≤ k) (sym (next_pages old new n.same)) (paid (turn_kind old))
+turn_pages_paid old new n = subst (λ (k : ℕ). pages_spent old + (form_pages old.form + durable_pages old) ≤ k)
+    (sym (next_pages old new n.same)) (paid (turn_kind old))
   where
-    paid : TurnKind old → pages_spent old + (form_pages old.form + durable_pages old) ≤ pages_at (marks_of old.shape old.every) new.done (form_read new.form) (new.load / old.every)
+    paid : TurnKind old → pages_spent old + (form_pages old.form + durable_pages old) ≤ pages_at (marks_of old.shape old.every) new.done
+        (form_read new.form) (new.load / old.every)
     paid (last_load last) =
         let a = turn_pages_pass old (last_load last) in
         let to = n.last last in
-        let all : new.done * (2 + 4 * marks_of old.shape old.every) ≡ (old.done + 1) * (2 + 4 * marks_of old.shape old.every) = ap (λ (k : ℕ). k * (2 + 4 * marks_of old.shape old.every)) to.0 in
+        let all : new.done * (2 + 4 * marks_of old.shape old.every) ≡ (old.done + 1) * (2 + 4 * marks_of old.shape old.every) = ap
+        (λ (k : ℕ). k * (2 + 4 * marks_of old.shape old.every)) to.0 in
         omega (arith, a, all)
     paid (marked_load within none) =
         let a = read_once old.form in
         let b = marked_pages old within none in
         let to = n.before within in
-        let all : new.done * (2 + 4 * marks_of old.shape old.every) ≡ old.done * (2 + 4 * marks_of old.shape old.every) = ap (λ (k : ℕ). k * (2 + 4 * marks_of old.shape old.every)) to.0 in
-        let place : new.load / old.every ≡ old.load / old.every + 1 = ap (λ (k : ℕ). k / old.every) to.1 ∙ place_next old.every old.load old.keeps.every_some none in
+        let all : new.done * (2 + 4 * marks_of old.shape old.every) ≡ old.done * (2 + 4 * marks_of old.shape old.every) = ap
+        (λ (k : ℕ). k * (2 + 4 * marks_of old.shape old.every)) to.0 in
+        let place : new.load / old.every ≡ old.load / old.every + 1 = ap (λ (k : ℕ). k / old.every) to.1
+        ∙ place_next old.every old.load old.keeps.every_some none in
         let read = once_read new.form to.2 in
         omega (arith, a, b, all, place, read)
     paid (other_load within some) =
         let a = read_once old.form in
         let b = other_pages old within some in
         let to = n.before within in
-        let all : new.done * (2 + 4 * marks_of old.shape old.every) ≡ old.done * (2 + 4 * marks_of old.shape old.every) = ap (λ (k : ℕ). k * (2 + 4 * marks_of old.shape old.every)) to.0 in
-        let place : new.load / old.every ≡ old.load / old.every = ap (λ (k : ℕ). k / old.every) to.1 ∙ place_same old.every old.load old.keeps.every_some some in
+        let all : new.done * (2 + 4 * marks_of old.shape old.every) ≡ old.done * (2 + 4 * marks_of old.shape old.every) = ap
+        (λ (k : ℕ). k * (2 + 4 * marks_of old.shape old.every)) to.0 in
+        let place : new.load / old.every ≡ old.load / old.every = ap (λ (k : ℕ). k / old.every) to.1
+        ∙ place_same old.every old.load old.keeps.every_some some in
         let read = once_read new.form to.2 in
         omega (arith, a, b, all, place, read)
 
 -- and its syncs
 pub turn_syncs_paid : (old new : Machine) → IsNextOf old new → syncs_spent old + durable_syncs old ≤ syncs_spent new
 unfolding syncs_spent syncs_at
-turn_syncs_paid old new n = subst (λ (k : ℕ). syncs_spent old + durable_syncs old ≤ k) (sym (next_syncs old new n.same)) (paid (turn_kind old))
+turn_syncs_paid old new n = subst (λ (k : ℕ). syncs_spent old + durable_syncs old ≤ k) (sym (next_syncs old new n.same))
+    (paid (turn_kind old))
   where
     paid : TurnKind old → syncs_spent old + durable_syncs old ≤ syncs_at (marks_of old.shape old.every) new.done (new.load / old.every)
     paid (last_load last) =
         let a = turn_syncs_pass old (last_load last) in
         let to = n.last last in
-        let all : new.done * (2 + 3 * marks_of old.shape old.every) ≡ (old.done + 1) * (2 + 3 * marks_of old.shape old.every) = ap (λ (k : ℕ). k * (2 + 3 * marks_of old.shape old.every)) to.0 in
+        let all : new.done * (2 + 3 * marks_of old.shape old.every) ≡ (old.done + 1) * (2 + 3 * marks_of old.shape old.every) = ap
+        (λ (k : ℕ). k * (2 + 3 * marks_of old.shape old.every)) to.0 in
         omega (arith, a, all)
     paid (marked_load within none) =
         let b = marked_syncs old within none in
         let to = n.before within in
-        let all : new.done * (2 + 3 * marks_of old.shape old.every) ≡ old.done * (2 + 3 * marks_of old.shape old.every) = ap (λ (k : ℕ). k * (2 + 3 * marks_of old.shape old.every)) to.0 in
-        let place : new.load / old.every ≡ old.load / old.every + 1 = ap (λ (k : ℕ). k / old.every) to.1 ∙ place_next old.every old.load old.keeps.every_some none in
+        let all : new.done * (2 + 3 * marks_of old.shape old.every) ≡ old.done * (2 + 3 * marks_of old.shape old.every) = ap
+        (λ (k : ℕ). k * (2 + 3 * marks_of old.shape old.every)) to.0 in
+        let place : new.load / old.every ≡ old.load / old.every + 1 = ap (λ (k : ℕ). k / old.every) to.1
+        ∙ place_next old.every old.load old.keeps.every_some none in
         omega (arith, b, all, place)
     paid (other_load within some) =
         let b = other_syncs old within some in
         let to = n.before within in
-        let all : new.done * (2 + 3 * marks_of old.shape old.every) ≡ old.done * (2 + 3 * marks_of old.shape old.every) = ap (λ (k : ℕ). k * (2 + 3 * marks_of old.shape old.every)) to.0 in
-        let place : new.load / old.every ≡ old.load / old.every = ap (λ (k : ℕ). k / old.every) to.1 ∙ place_same old.every old.load old.keeps.every_some some in
+        let all : new.done * (2 + 3 * marks_of old.shape old.every) ≡ old.done * (2 + 3 * marks_of old.shape old.every) = ap
+        (λ (k : ℕ). k * (2 + 3 * marks_of old.shape old.every)) to.0 in
+        let place : new.load / old.every ≡ old.load / old.every = ap (λ (k : ℕ). k / old.every) to.1
+        ∙ place_same old.every old.load old.keeps.every_some some in
         omega (arith, b, all, place)
 
 -- what is counted grows from turn to turn
 pub counted_grows : (old new : Machine) → IsNextOf old new → loads_counted old ≤ loads_counted new
-counted_grows old new n = subst (λ (s : Shape). loads_counted old ≤ new.done * loads_of s + new.part) (sym n.same.shape) (grows (turn_kind old))
+counted_grows old new n = subst (λ (s : Shape). loads_counted old ≤ new.done * loads_of s + new.part) (sym n.same.shape)
+    (grows (turn_kind old))
   where
     grows : TurnKind old → loads_counted old ≤ new.done * loads_of old.shape + new.part
     grows (last_load last) =

@@ -10,7 +10,8 @@ use Rattle.bm_control.proofs.JobBodyLemmas.{limit-most}
 use Rattle.bm_job.specs.Ranges.{MachineFits}
 
 -- a machine has few passes
-pub few_passes : (s : Shape) (job : Job) (passes done every part slot load : ℕ) → MachineFits s job passes done every part slot load → passes ≤ 254
+pub few_passes : (s : Shape) (job : Job) (passes done every part slot load : ℕ) → MachineFits s job passes done every part slot load
+    → passes ≤ 254
 few_passes s job passes done every part slot load fits =
     let most = limit-most s job in
     let few = fits.passes_few in
@@ -28,7 +29,8 @@ pub marked_parts : (loads load every : ℕ) → load + 1 < loads → (load + 1) 
 marked_parts loads load every within none = (let few = multiple (load + 1) every (omega arith) none in omega (arith, few, within))
 
 -- a machine once its loads are counted
-pub marked_fits : (s : Shape) (job : Job) (passes done every part slot load free : ℕ) → MachineFits s job passes done every part slot load → done < passes
+pub marked_fits : (s : Shape) (job : Job) (passes done every part slot load free : ℕ) → MachineFits s job passes done every part slot load
+    → done < passes
     → load + 1 < loads_of s → (load + 1) % every ≡ 0 → free < 2 → MachineFits s job passes done every (load + 1) free (load + 1)
 marked_fits s job passes done every part slot load free fits left within none few = record {
   passes_some = fits.passes_some;
@@ -58,7 +60,8 @@ moved_small s done load few within =
     let product : done * loads_of s ≤ 254 * 2 ^ 52 = mul-le-mul few most in
     omega (arith, product, most, within)
 
-pub moved_fits : (s : Shape) (job : Job) (passes done every part slot load : ℕ) → MachineFits s job passes done every part slot load → done * loads_of s + load < 2 ^ 64
+pub moved_fits : (s : Shape) (job : Job) (passes done every part slot load : ℕ) → MachineFits s job passes done every part slot load
+    → done * loads_of s + load < 2 ^ 64
 moved_fits s job passes done every part slot load fits =
     let few = few_passes s job passes done every part slot load fits in
     let most = fits.done_few in

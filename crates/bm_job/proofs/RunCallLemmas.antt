@@ -21,7 +21,8 @@ use Rattle.bm_control.proofs.UniqueLemmas.{passes_unique, every_unique}
 
 -- the calls of a begin and of turns
 pub both_calls : (t : Shape) (passes every rows : ℕ) (succeeds : Type 0) (a b c : RackView) → MakesPageCalls ⊥ (8 + 2 * passes) 3 a b
-    → MakesCalls succeeds rows (turn_pages t passes every) (turn_syncs t passes every) b c → CallsFew (run_pages t passes every) (run_syncs t passes every) a c
+    → MakesCalls succeeds rows (turn_pages t passes every) (turn_syncs t passes every) b c
+    → CallsFew (run_pages t passes every) (run_syncs t passes every) a c
 both_calls t passes every rows succeeds a b c x y = record {
   pages_low = omega (arith, x.pages_low, y.pages_low);
   pages_high = omega (arith, x.pages_high, y.pages_high);
@@ -30,7 +31,8 @@ both_calls t passes every rows succeeds a b c x y = record {
 }
 
 -- the calls of a begin alone
-calls_few : (t : Shape) (passes every pages syncs : ℕ) (a b : RackView) → pages ≤ 8 + 2 * passes → syncs ≤ 3 → MakesPageCalls ⊥ pages syncs a b
+calls_few : (t : Shape) (passes every pages syncs : ℕ) (a b : RackView) → pages ≤ 8 + 2 * passes → syncs ≤ 3
+    → MakesPageCalls ⊥ pages syncs a b
     → CallsFew (run_pages t passes every) (run_syncs t passes every) a b
 calls_few t passes every pages syncs a b few less x = record {
   pages_low = x.pages_low;
@@ -48,7 +50,8 @@ begin_calls s v passes every a b x = record {
 }
 
 -- calls by other names of the numbers
-calls_same : (t u : Shape) (p q passes every : ℕ) (a b : RackView) → t ≡ u → p ≡ passes → q ≡ every → CallsFew (run_pages t p q) (run_syncs t p q) a b
+calls_same : (t u : Shape) (p q passes every : ℕ) (a b : RackView) → t ≡ u → p ≡ passes → q ≡ every
+    → CallsFew (run_pages t p q) (run_syncs t p q) a b
     → CallsFew (run_pages u passes every) (run_syncs u passes every) a b
 calls_same t u p q passes every a b shape count loads x =
     subst (λ (y : ℕ). CallsFew (run_pages u passes y) (run_syncs u passes y) a b) loads
@@ -56,7 +59,8 @@ calls_same t u p q passes every a b shape count loads x =
     (subst (λ (y : Shape). CallsFew (run_pages y p q) (run_syncs y p q) a b) shape x))
 
 -- and where turns were taken
-pub run_calls : (s : Shape) (job : Job) (m : Machine) (v : Contents) (passes every : ℕ) (a b : RackView) → BeginAnswer s job passes every v (Ok m)
+pub run_calls : (s : Shape) (job : Job) (m : Machine) (v : Contents) (passes every : ℕ) (a b : RackView)
+    → BeginAnswer s job passes every v (Ok m)
     → CallsFew (run_pages m.shape m.passes m.every) (run_syncs m.shape m.passes m.every) a b → RunCalls s v passes every a b
 run_calls s job m v passes every a b (fresh, inl (loaded, start)) x = record {
   none = λ closed. calls_same m.shape s m.passes m.every passes every a b fresh.shape start.passes_are start.every_is x;
@@ -88,7 +92,8 @@ marks_few s every some =
     ]
 
 -- the calls of the turns, by the greatest number of passes
-turns_few : (s : Shape) (passes most every k : ℕ) → passes ≤ most → 1 ≤ every → passes * (2 + k * marks_of s every) ≤ most * (2 + k * (loads_of s - 1))
+turns_few : (s : Shape) (passes most every k : ℕ) → passes ≤ most → 1 ≤ every
+    → passes * (2 + k * marks_of s every) ≤ most * (2 + k * (loads_of s - 1))
 turns_few s passes most every k few some =
     let a : k * marks_of s every ≤ k * (loads_of s - 1) = mul-le-mul_left k (marks_few s every some) in
     mul-le-mul few (omega (arith, a))
@@ -101,17 +106,21 @@ most_begun s job a b x =
     record { pages_low = x.pages_low; pages_high = omega (arith, high); syncs_low = x.syncs_low; syncs_high = omega (arith, syncs) }
 
 -- and of turns after it
-pub most_run : (s : Shape) (job : Job) (m : Machine) (rows : ℕ) (succeeds : Type 0) (a b c : RackView) → IsFresh s job m → MakesPageCalls ⊥ 516 3 a b
+pub most_run : (s : Shape) (job : Job) (m : Machine) (rows : ℕ) (succeeds : Type 0) (a b c : RackView) → IsFresh s job m
+    → MakesPageCalls ⊥ 516 3 a b
     → MakesCalls succeeds rows (turn_pages m.shape m.passes m.every) (turn_syncs m.shape m.passes m.every) b c
     → CallsFew (most_pages s job) (most_syncs s job) a c
 most_run s job m rows succeeds a b c fresh x y =
-    let limit : limit_of m.shape m.job ≡ limit_of s job = ap (λ (t : Shape). limit_of t m.job) fresh.shape ∙ ap (λ (k : Job). limit_of s k) fresh.job_is in
+    let limit : limit_of m.shape m.job ≡ limit_of s job = ap (λ (t : Shape). limit_of t m.job) fresh.shape
+    ∙ ap (λ (k : Job). limit_of s k) fresh.job_is in
     let few = m.keeps.passes_few in
     let loads : loads_of m.shape ≡ loads_of s = ap loads_of fresh.shape in
     let p = turns_few m.shape m.passes (limit_of s job) m.every 4 (omega (arith, few, limit)) m.keeps.every_some in
     let q = turns_few m.shape m.passes (limit_of s job) m.every 3 (omega (arith, few, limit)) m.keeps.every_some in
-    let p' : limit_of s job * (2 + 4 * (loads_of m.shape - 1)) ≡ limit_of s job * (2 + 4 * (loads_of s - 1)) = ap (λ (k : ℕ). limit_of s job * (2 + 4 * (k - 1))) loads in
-    let q' : limit_of s job * (2 + 3 * (loads_of m.shape - 1)) ≡ limit_of s job * (2 + 3 * (loads_of s - 1)) = ap (λ (k : ℕ). limit_of s job * (2 + 3 * (k - 1))) loads in
+    let p' : limit_of s job * (2 + 4 * (loads_of m.shape - 1)) ≡ limit_of s job * (2 + 4 * (loads_of s - 1)) = ap
+    (λ (k : ℕ). limit_of s job * (2 + 4 * (k - 1))) loads in
+    let q' : limit_of s job * (2 + 3 * (loads_of m.shape - 1)) ≡ limit_of s job * (2 + 3 * (loads_of s - 1)) = ap
+    (λ (k : ℕ). limit_of s job * (2 + 3 * (k - 1))) loads in
     record {
       pages_low = omega (arith, x.pages_low, y.pages_low);
       pages_high = omega (arith, x.pages_high, y.pages_high, p, p');

@@ -20,7 +20,8 @@ use Rattle.bm_job.specs.Follows.{Follows, IsNext, loads_moved, loads_counted}
 use Rattle.bm_job.specs.Turns.{SameJob, IsNextOf, IsTurnUnit, IsBadBody, form_pages, durable_pages, durable_syncs}
 use Rattle.bm_job.specs.Runs.{IsWorkUnit, turn_pages, turn_syncs, loads_left, load_rows, IsReached}
 use Rattle.bm_job.proofs.RangeLemmas.{few_passes}
-use Rattle.bm_job.proofs.PaceLemmas.{pages_spent, syncs_spent, turn_pages_few, turn_syncs_few, turn_pages_paid, turn_syncs_paid, end_pages_few, end_syncs_few, counted_grows, load_left, loads_all, moved_near}
+use Rattle.bm_job.proofs.PaceLemmas.{pages_spent, syncs_spent, turn_pages_few, turn_syncs_few, turn_pages_paid, turn_syncs_paid}
+use Rattle.bm_job.proofs.PaceLemmas.{end_pages_few, end_syncs_few, counted_grows, load_left, loads_all, moved_near}
 use Rattle.bm_job.proofs.WorkUnitLemmas.{turn_work, body_kept}
 
 -- ---- counts
@@ -61,7 +62,8 @@ pub record OnWay (told_stands told_contents : Bool) (start now : Machine) (old n
   pub syncs_high : new.syncs ≤ raised old.syncs (syncs_spent now)
 
 -- no turn yet
-pub on_way_start : (told_stands told_contents : Bool) (m : Machine) (v : RackView) → IsWellFormed told_stands told_contents v → IsTrue m.alive
+pub on_way_start : (told_stands told_contents : Bool) (m : Machine) (v : RackView) → IsWellFormed told_stands told_contents v
+    → IsTrue m.alive
     → OnWay told_stands told_contents m m v v
 on_way_start told_stands told_contents m v well alive =
     let fm = well.moves in
@@ -76,7 +78,8 @@ on_way_start told_stands told_contents m v well alive =
       frame = record { stands = refl; attached = refl; contents = λ u h. refl; dirty = λ u h clean. clean };
       keeps = Keeps-refl v;
       input = same_input_none m.shape v;
-      moves = (let none : load_rows m.shape (loads_moved m - loads_moved m) ≡ 0 = (let e : loads_moved m - loads_moved m ≡ 0 = omega arith in ap (λ (k : ℕ). load_rows m.shape k) e ∙ (let f : load_rows m.shape 0 ≡ 0 = omega arith in f)) in
+      moves = (let none : load_rows m.shape (loads_moved m - loads_moved m) ≡ 0 = (let e : loads_moved m - loads_moved m ≡ 0 = omega
+          arith in ap (λ (k : ℕ). load_rows m.shape k) e ∙ (let f : load_rows m.shape 0 ≡ 0 = omega arith in f)) in
           sym (ap (λ (k : ℕ). raised v.moves k) none ∙ raised-zero v.moves fm));
       moves_low = omega arith;
       pages_low = omega arith;
@@ -94,11 +97,14 @@ rows_next : (s : Shape) (k : ℕ) → load_rows s k + 2 * load_stripes s ≡ loa
 rows_next s k = omega arith
 
 -- the frame of a turn as that of the job's turns
-turn_frame : (s : Shape) (m : Machine) (old new : RackView) → m.shape ≡ s → DirtiesOnly (IsTurnUnit m) old new → DirtiesOnly (IsWorkUnit s) old new
-turn_frame s m old new same w = subst (λ (t : Shape). DirtiesOnly (IsWorkUnit t) old new) same (DirtiesOnly-wider (IsTurnUnit m) (IsWorkUnit m.shape) old new (turn_work m) w)
+turn_frame : (s : Shape) (m : Machine) (old new : RackView) → m.shape ≡ s → DirtiesOnly (IsTurnUnit m) old new
+    → DirtiesOnly (IsWorkUnit s) old new
+turn_frame s m old new same w = subst (λ (t : Shape). DirtiesOnly (IsWorkUnit t) old new) same
+    (DirtiesOnly-wider (IsTurnUnit m) (IsWorkUnit m.shape) old new (turn_work m) w)
 
 -- and its input
-turn_input_of : (s : Shape) (m : Machine) (old new : RackView) → m.shape ≡ s → SameInput (dims_of m.shape) old new → SameInput (dims_of s) old new
+turn_input_of : (s : Shape) (m : Machine) (old new : RackView) → m.shape ≡ s → SameInput (dims_of m.shape) old new
+    → SameInput (dims_of s) old new
 turn_input_of s m old new same x = subst (λ (t : Shape). SameInput (dims_of t) old new) same x
 
 -- a turn more
@@ -127,55 +133,67 @@ on_way_next told_stands told_contents start now next old mid new failed succeeds
       moves = (let k = loads_moved now - loads_moved start in
           let rows : 2 * load_stripes now.shape ≡ 2 * load_stripes start.shape = ap (λ (t : Shape). 2 * load_stripes t) shape in
           let one : loads_moved next - loads_moved start ≡ k + 1 = omega (arith, further, moved) in
-          raised_sum _ _ _ (load_rows start.shape k) (2 * load_stripes now.shape) (load_rows start.shape (loads_moved next - loads_moved start)) o.moves (c.done ok)
+          raised_sum _ _ _ (load_rows start.shape k) (2 * load_stripes now.shape)
+          (load_rows start.shape (loads_moved next - loads_moved start)) o.moves (c.done ok)
           (ap (λ (r : ℕ). load_rows start.shape k + r) rows ∙ rows_next start.shape k ∙ ap (λ (j : ℕ). load_rows start.shape j) (sym one)));
       moves_low = (let a = o.moves_low in let b = c.moves_low in omega (arith, a, b));
       pages_low = omega (arith, low, low2);
-      pages_high = raised_both _ _ _ (pages_spent now) (form_pages now.form + durable_pages now) (pages_spent next) o.pages_high c.pages_high (turn_pages_paid now next n);
+      pages_high = raised_both _ _ _ (pages_spent now) (form_pages now.form + durable_pages now) (pages_spent next) o.pages_high
+          c.pages_high (turn_pages_paid now next n);
       syncs_low = omega (arith, slow, slow2);
-      syncs_high = raised_both _ _ _ (syncs_spent now) (durable_syncs now) (syncs_spent next) o.syncs_high c.syncs_high (turn_syncs_paid now next n);
+      syncs_high = raised_both _ _ _ (syncs_spent now) (durable_syncs now) (syncs_spent next) o.syncs_high c.syncs_high
+          (turn_syncs_paid now next n);
     }
 
 -- fewer loads are left
-pub fewer_left : (now next : Machine) → IsNextOf now next → now.done < now.passes → loads_moved next ≡ loads_moved now + 1 → loads_left next < loads_left now
+pub fewer_left : (now next : Machine) → IsNextOf now next → now.done < now.passes → loads_moved next ≡ loads_moved now + 1
+    → loads_left next < loads_left now
 fewer_left now next n left moved =
     let most = load_left now left in
     let all : next.passes * loads_of next.shape ≡ now.passes * loads_of now.shape = rw (n.same.passes, n.same.shape) refl in
     omega (arith, most, all, moved)
 
 -- the same numbers of calls by the first machine
-pages_of_start : (start now : Machine) → SameJob start now → turn_pages now.shape now.passes now.every ≡ turn_pages start.shape start.passes start.every
+pages_of_start : (start now : Machine) → SameJob start now → turn_pages now.shape now.passes now.every ≡ turn_pages start.shape start.passes
+    start.every
 pages_of_start start now same = rw (same.shape, same.passes, same.every) refl
 
 -- the same numbers of syncs and of loads
-syncs_of_start : (start now : Machine) → SameJob start now → turn_syncs now.shape now.passes now.every ≡ turn_syncs start.shape start.passes start.every
+syncs_of_start : (start now : Machine) → SameJob start now → turn_syncs now.shape now.passes now.every ≡ turn_syncs start.shape start.passes
+    start.every
 syncs_of_start start now same = rw (same.shape, same.passes, same.every) refl
 
 loads_of_start : (start now : Machine) → SameJob start now → now.passes * loads_of now.shape ≡ start.passes * loads_of start.shape
 loads_of_start start now same = rw (same.passes, same.shape) refl
 
 -- the calls of all turns
-pub end_calls : (told_stands told_contents : Bool) (start now : Machine) (old new : RackView) (succeeds : Type 0) → OnWay told_stands told_contents start now old new
+pub end_calls : (told_stands told_contents : Bool) (start now : Machine) (old new : RackView) (succeeds : Type 0)
+    → OnWay told_stands told_contents start now old new
     → now.done ≡ now.passes
-    → MakesCalls succeeds (load_rows start.shape (loads_left start)) (turn_pages start.shape start.passes start.every) (turn_syncs start.shape start.passes start.every) old new
+    → MakesCalls succeeds (load_rows start.shape (loads_left start)) (turn_pages start.shape start.passes start.every)
+    (turn_syncs start.shape start.passes start.every) old new
 end_calls told_stands told_contents start now old new succeeds o end =
     let all : loads_moved now ≡ start.passes * loads_of start.shape = loads_all now end ∙ loads_of_start start now o.same in
-    let moves : new.moves ≡ raised old.moves (load_rows start.shape (loads_left start)) = o.moves ∙ ap (λ (k : ℕ). raised old.moves (load_rows start.shape (k - loads_moved start))) all in
+    let moves : new.moves ≡ raised old.moves (load_rows start.shape (loads_left start)) = o.moves
+    ∙ ap (λ (k : ℕ). raised old.moves (load_rows start.shape (k - loads_moved start))) all in
     record {
       done = λ _. moves;
       moves_low = o.moves_low;
       moves_high = omega (arith, moves);
       pages_low = o.pages_low;
-      pages_high = raised_most _ _ _ _ o.pages_high (subst (λ (k : ℕ). pages_spent now ≤ k) (pages_of_start start now o.same) (end_pages_few now end));
+      pages_high = raised_most _ _ _ _ o.pages_high (subst (λ (k : ℕ). pages_spent now ≤ k) (pages_of_start start now o.same)
+          (end_pages_few now end));
       syncs_low = o.syncs_low;
-      syncs_high = raised_most _ _ _ _ o.syncs_high (subst (λ (k : ℕ). syncs_spent now ≤ k) (syncs_of_start start now o.same) (end_syncs_few now end));
+      syncs_high = raised_most _ _ _ _ o.syncs_high (subst (λ (k : ℕ). syncs_spent now ≤ k) (syncs_of_start start now o.same)
+          (end_syncs_few now end));
     }
 
 -- the calls so far, and those of a turn that failed
 pub failed_calls : (told_stands told_contents : Bool) (start now : Machine) (old mid new : RackView) (first succeeds : Type 0)
     → OnWay told_stands told_contents start now old mid → now.done < now.passes → ¬ succeeds
     → MakesCalls first (2 * load_stripes now.shape) (form_pages now.form + durable_pages now) (durable_syncs now) mid new
-    → MakesCalls succeeds (load_rows start.shape (loads_left start)) (turn_pages start.shape start.passes start.every) (turn_syncs start.shape start.passes start.every) old new
+    → MakesCalls succeeds (load_rows start.shape (loads_left start)) (turn_pages start.shape start.passes start.every)
+    (turn_syncs start.shape start.passes start.every) old new
 failed_calls told_stands told_contents start now old mid new first succeeds o left fails c =
     let low = o.moves_low in
     let low2 = c.moves_low in
@@ -188,15 +206,18 @@ failed_calls told_stands told_contents start now old mid new first succeeds o le
     let rows : 2 * load_stripes now.shape ≡ 2 * load_stripes start.shape = ap (λ (t : Shape). 2 * load_stripes t) o.same.shape in
     let most = load_left now left in
     let all = loads_of_start start now o.same in
-    let within : load_rows start.shape (k + 1) ≤ load_rows start.shape (loads_left start) = mul-le-mul_left (2 * load_stripes start.shape) (omega (arith, most, all, further)) in
+    let within : load_rows start.shape (k + 1) ≤ load_rows start.shape (loads_left start) = mul-le-mul_left (2 * load_stripes start.shape)
+    (omega (arith, most, all, further)) in
     let one = rows_next start.shape k in
     record {
       done = λ ok. absurd (fails ok);
       moves_low = omega (arith, low, low2);
-      moves_high = raised_both _ _ _ (load_rows start.shape k) (2 * load_stripes now.shape) (load_rows start.shape (loads_left start)) (let m = o.moves in omega (arith, m)) c.moves_high (omega (arith, rows, within, one));
+      moves_high = raised_both _ _ _ (load_rows start.shape k) (2 * load_stripes now.shape) (load_rows start.shape (loads_left start))
+          (let m = o.moves in omega (arith, m)) c.moves_high (omega (arith, rows, within, one));
       pages_low = omega (arith, plow, plow2);
       pages_high = raised_both _ _ _ (pages_spent now) (form_pages now.form + durable_pages now) _ o.pages_high c.pages_high
-          (subst (λ (k : ℕ). pages_spent now + (form_pages now.form + durable_pages now) ≤ k) (pages_of_start start now o.same) (turn_pages_few now left));
+          (subst (λ (k : ℕ). pages_spent now + (form_pages now.form + durable_pages now) ≤ k) (pages_of_start start now o.same)
+          (turn_pages_few now left));
       syncs_low = omega (arith, slow, slow2);
       syncs_high = raised_both _ _ _ (syncs_spent now) (durable_syncs now) _ o.syncs_high c.syncs_high
           (subst (λ (k : ℕ). syncs_spent now + durable_syncs now ≤ k) (syncs_of_start start now o.same) (turn_syncs_few now left));
@@ -214,16 +235,20 @@ reached_of told_stands told_contents start now old mid new first gone o c sure =
     let every = o.same.every in
     let k = loads_moved now - loads_moved start in
     let rows : 2 * load_stripes now.shape ≡ 2 * load_stripes start.shape = ap (λ (t : Shape). 2 * load_stripes t) o.same.shape in
-    let within : load_rows start.shape (k + 1) ≤ load_rows start.shape (gone + start.every - loads_moved start) = mul-le-mul_left (2 * load_stripes start.shape) (omega (arith, near, every, sure, further)) in
+    let within : load_rows start.shape (k + 1) ≤ load_rows start.shape (gone + start.every - loads_moved start) = mul-le-mul_left
+    (2 * load_stripes start.shape) (omega (arith, near, every, sure, further)) in
     let one = rows_next start.shape k in
     record {
       counted = omega (arith, counted, sure);
-      rows = raised_both _ _ _ (load_rows start.shape k) (2 * load_stripes now.shape) (load_rows start.shape (gone + start.every - loads_moved start)) (let m = o.moves in omega (arith, m)) c.moves_high (omega (arith, rows, within, one));
+      rows = raised_both _ _ _ (load_rows start.shape k) (2 * load_stripes now.shape)
+          (load_rows start.shape (gone + start.every - loads_moved start)) (let m = o.moves in omega (arith, m)) c.moves_high
+          (omega (arith, rows, within, one));
     }
 
 -- the calls so far and one that failed
 pub failed_call : (told_stands told_contents : Bool) (start now : Machine) (old mid new : RackView) (first failed : Type 0)
-    → OnWay told_stands told_contents start now old mid → (failed → first) → RackCall (IsTurnUnit now) first mid new → RackCall (IsWorkUnit start.shape) failed old new
+    → OnWay told_stands told_contents start now old mid → (failed → first) → RackCall (IsTurnUnit now) first mid new
+    → RackCall (IsWorkUnit start.shape) failed old new
 failed_call told_stands told_contents start now old mid new first failed o f c = record {
   frame = DirtiesOnly-trans (IsWorkUnit start.shape) _ _ _ o.frame (turn_frame start.shape now mid new o.same.shape c.frame);
   keeps = Keeps-trans _ _ _ o.keeps c.keeps;
@@ -233,10 +258,12 @@ failed_call told_stands told_contents start now old mid new first failed o f c =
 -- the input after it
 pub failed_input : (told_stands told_contents : Bool) (start now : Machine) (old mid new : RackView)
     → OnWay told_stands told_contents start now old mid → SameInput (dims_of now.shape) mid new → SameInput (dims_of start.shape) old new
-failed_input told_stands told_contents start now old mid new o x = same_input_then start.shape _ _ _ o.input (turn_input_of start.shape now mid new o.same.shape x)
+failed_input told_stands told_contents start now old mid new o x = same_input_then start.shape _ _ _ o.input
+    (turn_input_of start.shape now mid new o.same.shape x)
 
 -- the body of the pass under way stands where all of them stood before
-pub body_stands : (told_stands told_contents : Bool) (start now : Machine) (old mid : RackView) (page : ℕ) → OnWay told_stands told_contents start now old mid
+pub body_stands : (told_stands told_contents : Bool) (start now : Machine) (old mid : RackView) (page : ℕ)
+    → OnWay told_stands told_contents start now old mid
     → now.done < now.passes → HasBodies start old.contents → ¬ IsBadBody now mid.contents page
 body_stands told_stands told_contents start now old mid page o left bodies bad =
     let few = few_passes now.shape now.job now.passes now.done now.every now.part now.slot now.load now.keeps in

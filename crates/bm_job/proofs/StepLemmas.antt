@@ -1,5 +1,6 @@
 -- A job that is open with its progress, after a load is moved and after its progress is made durable.
-use Rattle.std.proofs.Common.{◌≡◌, ◌≢◌, inl, inr, ℕ, ◌+◌, ◌-◌, ◌*◌, ◌^◌, ◌<◌, ◌≤◌, Some, List, length, take, slice_get, refl, sym, ◌∙◌, ap, subst, arith}
+use Rattle.std.proofs.Common.{◌≡◌, ◌≢◌, inl, inr, ℕ, ◌+◌, ◌-◌, ◌*◌, ◌^◌, ◌<◌, ◌≤◌, Some, List, length, take, slice_get, refl, sym, ◌∙◌, ap}
+use Rattle.std.proofs.Common.{subst, arith}
 use Rattle.std.proofs.Math.Path.{subst₂}
 use Rattle.std.proofs.Math.Nat.{mul_comm}
 use Rattle.std.proofs.lemmas.Bool.{cases_eq}
@@ -26,7 +27,8 @@ use Rattle.bm_rack.specs.Frames.{ChangesOnly, DirtiesOnly}
 use Rattle.bm_rack.proofs.FrameLemmas.{ChangesOnly-wider}
 use Rattle.bm_stripe.specs.Units.{IsAreaUnit}
 use Rattle.bm_pass.specs.LoadMove.{LoadMoved, LoadsMoved as PassMoved, IsTargetUnit}
-use Rattle.bm_pass.proofs.PassLemmas.{IsTargetUnit-area, image_below_records, source_stays, LoadsMoved-more, LoadsMoved-same, LoadsMoved-all}
+use Rattle.bm_pass.proofs.PassLemmas.{IsTargetUnit-area, image_below_records, source_stays, LoadsMoved-more, LoadsMoved-same}
+use Rattle.bm_pass.proofs.PassLemmas.{LoadsMoved-all}
 use Rattle.bm_control.specs.Bodies.{part_page, PartBodyFits, IsJobBody, IsPassBody, IsPartBody}
 use Rattle.bm_control.specs.Consistent.{input_of, LoadsMoved, JobStands}
 use Rattle.bm_control.specs.Moments.{PassIsDone, PartIsMoved}
@@ -48,43 +50,54 @@ passed_numbers p q xs low map =
     ap (λ (f : Affine). permuted f (butterflies p.low xs)) map ∙ ap (λ (l : ℕ). permuted q.map.map (butterflies l xs)) low
 
 -- what is moved by one form of a body is moved by the other
-pub moved_by : (s : Shape) (done loads : ℕ) (v : Contents) (form other : PassForm) (target source : ℕ → List ℕ) → IsNext s done v form → IsNext s done v other
+pub moved_by : (s : Shape) (done loads : ℕ) (v : Contents) (form other : PassForm) (target source : ℕ → List ℕ) → IsNext s done v form
+    → IsNext s done v other
     → LoadsMoved s form loads target (passed form source) → LoadsMoved s other loads target (passed other source)
 moved_by s done loads v form other target source next also moved x below =
     let map = pass_map_unique s done (page_at v (pass_body done)) form other next also in
     let low = pass_low_unique s done (page_at v (pass_body done)) form other next also in
-    subst₂ (λ (f : Affine) (made : ℕ → List ℕ). target (affine_image f x) ≡ made (affine_image f x)) map (passed_numbers form other source low map) (moved x below)
+    subst₂ (λ (f : Affine) (made : ℕ → List ℕ). target (affine_image f x) ≡ made (affine_image f x)) map
+    (passed_numbers form other source low map) (moved x below)
 
 -- one load more is moved
-pub moved_more : (s : Shape) (done load : ℕ) (form : PassForm) (old new : RackView) → IsNext s done old.contents form → load < 2 ^ (s.n - s.m)
+pub moved_more : (s : Shape) (done load : ℕ) (form : PassForm) (old new : RackView) → IsNext s done old.contents form
+    → load < 2 ^ (s.n - s.m)
     → ChangesOnly (IsTargetUnit s form (area_after (done + 1)) load) old new → AreMoved s done load old.contents
     → LoadMoved s form (area_after done) (area_after (done + 1)) load old.contents new.contents → AreMoved s done (load + 1) new.contents
 moved_more s done load form old new next inside only moved one other also =
     let from = area_after done in
     let to = area_after (done + 1) in
-    let wide = ChangesOnly-wider (IsTargetUnit s form to load) (IsAreaUnit s to) old new (λ u. IsTargetUnit-area s form to load u next.of_shape) only in
+    let wide = ChangesOnly-wider (IsTargetUnit s form to load) (IsAreaUnit s to) old new
+    (λ u. IsTargetUnit-area s form to load u next.of_shape) only in
     let source = source_stays s from to old new (areas_apart done) wide in
     let before : PassMoved s form from to load old.contents old.contents =
     (λ x below. moved form next x (let turned = mul_comm load (2 ^ s.m) in omega (arith, below, turned))) in
     let more = LoadsMoved-more s form from to load old.contents old new next.of_shape inside (λ z below. refl) only before one in
-    let now = LoadsMoved-same s form from to (load + 1) old.contents new.contents new.contents next.of_shape (λ z below. sym (source z below)) more in
-    let page : page_at new.contents (pass_body done) ≡ page_at old.contents (pass_body done) = only.contents (page_unit (pass_body done)) (λ is. IsTargetUnit-area s form to load (page_unit (pass_body done)) next.of_shape is) in
+    let now = LoadsMoved-same s form from to (load + 1) old.contents new.contents new.contents next.of_shape
+    (λ z below. sym (source z below)) more in
+    let page : page_at new.contents (pass_body done) ≡ page_at old.contents (pass_body done) = only.contents (page_unit (pass_body done))
+    (λ is. IsTargetUnit-area s form to load (page_unit (pass_body done)) next.of_shape is) in
     let next' : IsNext s done new.contents form = subst (λ (p : List ℕ). IsPassBody s done p form) (sym page) next in
     moved_by s done (load + 1) new.contents form other (record_at new.contents s to) (record_at new.contents s from) next' also
     (λ x below. now x (let turned = mul_comm (load + 1) (2 ^ s.m) in omega (arith, below, turned)))
 
 -- the pass under way makes of the records that it reads what the first passes make of the input
-pub next_passed : (s : Shape) (v : Contents) (j : JobStands s v) (form : PassForm) → j.done < length j.forms → slice_get j.forms j.done ≡ Some form
+pub next_passed : (s : Shape) (v : Contents) (j : JobStands s v) (form : PassForm) → j.done < length j.forms
+    → slice_get j.forms j.done ≡ Some form
     → SameRecords (2 ^ s.n) (passed form (record_at v s (area_after j.done))) (all_passed (take (j.done + 1) j.forms) (input_of v s))
 next_passed s v j form left is x below =
     let body = j.bodies j.done form is in
-    passed-same s.n form (record_at v s (area_after j.done)) (all_passed (take j.done j.forms) (input_of v s)) (fits_of_shape s form s.keeps.memory body.of_shape) j.work x below
-    ∙ ap (λ (f : PassForm). passed f (all_passed (take j.done j.forms) (input_of v s)) x) (sym (get_or_from_slice_get j.forms j.done form form is))
+    passed-same s.n form (record_at v s (area_after j.done)) (all_passed (take j.done j.forms) (input_of v s))
+    (fits_of_shape s form s.keeps.memory body.of_shape) j.work x below
+    ∙ ap (λ (f : PassForm). passed f (all_passed (take j.done j.forms) (input_of v s)) x)
+    (sym (get_or_from_slice_get j.forms j.done form form is))
     ∙ ap (λ (made : ℕ → List ℕ). made x) (sym (all_passed-more j.forms j.done form (input_of v s) left))
 
 -- all loads of the pass under way are moved
-pub pass_done : (s : Shape) (job : Job) (passes done every part slot loads : ℕ) (v : RackView) → v.stands ≡ Some (dims_of s) → HasSizes (dims_of s) v.contents
-    → IsHeld s job passes done every part slot v → done < passes → loads ≡ 2 ^ (s.n - s.m) → AreMoved s done loads v.contents → PassIsDone v.contents done
+pub pass_done : (s : Shape) (job : Job) (passes done every part slot loads : ℕ) (v : RackView) → v.stands ≡ Some (dims_of s)
+    → HasSizes (dims_of s) v.contents
+    → IsHeld s job passes done every part slot v → done < passes → loads ≡ 2 ^ (s.n - s.m) → AreMoved s done loads v.contents
+    → PassIsDone v.contents done
 pass_done s job passes done every part slot loads v stands sizes held left all moved =
     let at = stands_at s job passes done every part slot v stands sizes held in
     let j = at.job in
@@ -105,8 +118,10 @@ pass_done s job passes done every part slot loads v stands sizes held left all m
     })
 
 -- some loads of it are
-pub part_moved : (s : Shape) (job : Job) (passes done every part slot loads : ℕ) (v : RackView) → v.stands ≡ Some (dims_of s) → HasSizes (dims_of s) v.contents
-    → IsHeld s job passes done every part slot v → done < passes → every < loads_of s → AreMoved s done loads v.contents → PartIsMoved s v.contents (done + 1) loads
+pub part_moved : (s : Shape) (job : Job) (passes done every part slot loads : ℕ) (v : RackView) → v.stands ≡ Some (dims_of s)
+    → HasSizes (dims_of s) v.contents
+    → IsHeld s job passes done every part slot v → done < passes → every < loads_of s → AreMoved s done loads v.contents
+    → PartIsMoved s v.contents (done + 1) loads
 part_moved s job passes done every part slot loads v stands sizes held left less moved =
     let at = stands_at s job passes done every part slot v stands sizes held in
     let j = at.job in
@@ -121,7 +136,8 @@ part_moved s job passes done every part slot loads v stands sizes held left less
       known = omega (arith, below);
       moved = λ form is x h.
           let body = j.bodies j.done form is in
-          moved' form body x h ∙ next_passed s v.contents j form below is (affine_image form.map.map x) (image_below_records s form x body.of_shape);
+          moved' form body x h ∙ next_passed s v.contents j form below is (affine_image form.map.map x)
+          (image_below_records s form x body.of_shape);
     })
 
 -- pages alone are changed
@@ -133,7 +149,8 @@ pages_differ P old new w blocks = record {
 }
 
 -- what is moved stays moved where pages alone are changed
-pub moved_kept : (P : ℕ → Type 0) (s : Shape) (done loads : ℕ) (a b : Contents) → DiffersIn P a b → ¬ P (pass_body done) → AreMoved s done loads a
+pub moved_kept : (P : ℕ → Type 0) (s : Shape) (done loads : ℕ) (a b : Contents) → DiffersIn P a b → ¬ P (pass_body done)
+    → AreMoved s done loads a
     → AreMoved s done loads b
 moved_kept P s done loads a b d not moved form next =
     subst₂ (λ (target source : ℕ → List ℕ). LoadsMoved s form loads target (passed form source))
@@ -172,7 +189,8 @@ held_finished s job passes done every part slot old new stands sizes held left f
       | inl here ↦ subst (λ (x : ℕ). IsOpenGate (page_at new.contents (pass_gate x))) (sym here) gate
       | inr other ↦ page (pass_gate i) (λ e. omega (arith, e, other)) ∙ held.gates.opened i (omega (arith, h, other))
     ];
-    closed = λ i from h opened. held.gates.closed i (omega (arith, from)) h (sym (page (pass_gate i) (λ e. omega (arith, e, from))) ∙ opened);
+    closed = λ i from h opened. held.gates.closed i (omega (arith, from)) h (sym (page (pass_gate i) (λ e. omega (arith, e, from)))
+        ∙ opened);
   };
   counted = record {
     none = λ whole. refl;
@@ -201,7 +219,8 @@ held_finished s job passes done every part slot old new stands sizes held left f
         omega (arith, is, soon, at.done_is)
 
 -- a slot counts more loads now, and nothing is dirty
-pub held_marked : (s : Shape) (job : Job) (passes done every part slot loads free : ℕ) (old new : RackView) → IsHeld s job passes done every part slot old
+pub held_marked : (s : Shape) (job : Job) (passes done every part slot loads free : ℕ) (old new : RackView)
+    → IsHeld s job passes done every part slot old
     → done < passes → passes ≤ 254 → every < loads_of s → PartBodyFits s (done + 1) loads → part < loads → free < 2
     → DirtiesOnly (IsSlotPage free) old new → IsClean new → IsOpenGate (page_at new.contents (slot_gate free))
     → page_at new.contents (slot_body free) ≡ part_page (done + 1) loads → IsSound new → IsHeld s job passes done every loads free new
@@ -225,7 +244,8 @@ held_marked s job passes done every part slot loads free old new held left few l
     nothing = λ is. absurd (omega (arith, is, slot_few));
     counts = λ h. record { opened = gate; body = record { fits = fits; page_is = body } };
     most = λ _ other count h c. (slot_few, most other count h c);
-    first = λ is c. (let e = (held.counted.most less 0 loads (omega arith) (counts_before 0 loads (λ z. omega (arith, z, is)) c)).1 in omega (arith, e, more));
+    first = λ is c. (let e = (held.counted.most less 0 loads (omega arith) (counts_before 0 loads (λ z. omega (arith, z, is)) c)).1 in omega
+        (arith, e, more));
   };
 }
   where
@@ -251,7 +271,8 @@ held_marked s job passes done every part slot loads free old new held left few l
     most : (other count : ℕ) → other < 2 → Counts s new.contents done other count → count ≤ loads
     most other count h c = elim (cases_eq other free) [
       | inl here ↦
-          let is = (part_unique s (page_at new.contents (slot_body free)) (done + 1) loads (done + 1) count (record { fits = fits; page_is = body })
+          let is = (part_unique s (page_at new.contents (slot_body free)) (done + 1) loads (done + 1) count
+          (record { fits = fits; page_is = body })
           (subst (λ (x : ℕ). IsPartBody s (page_at new.contents (slot_body x)) (done + 1) count) here c.body)).1 in
           omega (arith, is)
       | inr not ↦ (let e = (held.counted.most less other count h (counts_before other count not c)).1 in omega (arith, e, more))

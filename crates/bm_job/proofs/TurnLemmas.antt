@@ -1,5 +1,6 @@
 -- A turn as a whole: what it leaves as it was, at each exit.
-use Rattle.std.proofs.Common.{◌≡◌, ◌≢◌, ◌⊎◌, inl, inr, ℕ, ◌<◌, ◌≤◌, Bool, false, IsTrue, Some, Result, Ok, Err, IfOk, refl, sym, ◌∙◌, ap, arith}
+use Rattle.std.proofs.Common.{◌≡◌, ◌≢◌, ◌⊎◌, inl, inr, ℕ, ◌<◌, ◌≤◌, Bool, false, IsTrue, Some, Result, Ok, Err, IfOk, refl, sym, ◌∙◌, ap}
+use Rattle.std.proofs.Common.{arith}
 use Rattle.std.proofs.lemmas.Bool.{cases_lt, cases_eq, eq-eqb, ne_eqb}
 use Rattle.bm_base.specs.declared.dims.Dims.{Dims}
 use Rattle.bm_base.specs.Contents.{Contents, RackUnit, block_unit, page_unit, HasSizes}
@@ -39,16 +40,19 @@ free_apart slot is = elim (cases_eq slot 0) [
 ]
 
 -- the pages that a turn may write
-turn_page : (m : Machine) (k : ℕ) → IsTurnUnit m (page_unit k) → (k ≡ pass_gate m.done) ⊎ ((k ≡ slot_body (free_slot m.slot)) ⊎ (k ≡ slot_gate (free_slot m.slot)))
+turn_page : (m : Machine) (k : ℕ) → IsTurnUnit m (page_unit k) → (k ≡ pass_gate m.done)
+    ⊎ ((k ≡ slot_body (free_slot m.slot)) ⊎ (k ≡ slot_gate (free_slot m.slot)))
 turn_page m k (inl is) = absurd is
 turn_page m k (inr (inl is)) = inl is
 turn_page m k (inr (inr is)) = inr is
 
 -- an image at the end has the other pages as they were
-pub keeps_pages : (m : Machine) (old new : RackView) (dims : Dims) (image : Contents) → Follows m old → m.done < m.passes → DirtiesOnly (IsTurnUnit m) old new → IsImage dims new image
+pub keeps_pages : (m : Machine) (old new : RackView) (dims : Dims) (image : Contents) → Follows m old → m.done < m.passes
+    → DirtiesOnly (IsTurnUnit m) old new → IsImage dims new image
     → KeepsPages (λ k. IsTurnUnit m (page_unit k)) m.passes m.done m.slot old.contents image
 keeps_pages m old new dims image follows left w i = record {
-  pages = λ k not. i.clean (page_unit k) (w.dirty (page_unit k) not (follows.held.outside (page_unit k) (λ left is. is))) ∙ w.contents (page_unit k) not;
+  pages = λ k not. i.clean (page_unit k) (w.dirty (page_unit k) not (follows.held.outside (page_unit k) (λ left is. is)))
+      ∙ w.contents (page_unit k) not;
   front = λ k h is. elim (turn_page m k is) [
     | inl e ↦ omega (arith, e, h)
     | inr (inl e) ↦ omega (arith, e, h)
@@ -75,14 +79,17 @@ keeps_pages m old new dims image follows left w i = record {
     few = few_passes m.shape m.job m.passes m.done m.every m.part m.slot m.load m.keeps
 
 -- no stop loses what is counted
-pub turn_sure : (m : Machine) (old new : RackView) (dims : Dims) (image : Contents) (gone : ℕ) → Follows m old → m.done < m.passes → DirtiesOnly (IsTurnUnit m) old new
+pub turn_sure : (m : Machine) (old new : RackView) (dims : Dims) (image : Contents) (gone : ℕ) → Follows m old → m.done < m.passes
+    → DirtiesOnly (IsTurnUnit m) old new
     → IsImage dims new image → IsGone image gone → loads_counted m ≤ gone
 turn_sure m old new dims image gone follows left w i is =
-    counted_stays (λ k. IsTurnUnit m (page_unit k)) m.shape m.job m.passes m.done m.every m.part m.slot old image gone follows.held m.keeps.counted.few
+    counted_stays (λ k. IsTurnUnit m (page_unit k)) m.shape m.job m.passes m.done m.every m.part m.slot old image gone follows.held
+    m.keeps.counted.few
     (keeps_pages m old new dims image follows left w i) is
 
 -- and where nothing is done
-pub rest_sure : (m : Machine) (v : RackView) (dims : Dims) (image : Contents) (gone : ℕ) → Follows m v → IsImage dims v image → IsGone image gone → loads_counted m ≤ gone
+pub rest_sure : (m : Machine) (v : RackView) (dims : Dims) (image : Contents) (gone : ℕ) → Follows m v → IsImage dims v image
+    → IsGone image gone → loads_counted m ≤ gone
 rest_sure m v dims image gone follows i is =
     counted_stays (λ k. ⊥) m.shape m.job m.passes m.done m.every m.part m.slot v image gone follows.held m.keeps.counted.few
     (record {
@@ -107,7 +114,8 @@ turn_input m old new w = record {
     apart (block_unit disk place) input (inr (inr is)) = is
 
 -- a pass that is left has a body
-pub has_next : (m : Machine) (v : RackView) → v.stands ≡ Some (dims_of m.shape) → HasSizes (dims_of m.shape) v.contents → Follows m v → m.done < m.passes
+pub has_next : (m : Machine) (v : RackView) → v.stands ≡ Some (dims_of m.shape) → HasSizes (dims_of m.shape) v.contents → Follows m v
+    → m.done < m.passes
     → (form : PassForm) × IsNext m.shape m.done v.contents form
 has_next m v stands sizes follows left =
     let at = stands_at m.shape m.job m.passes m.done m.every m.part m.slot v stands sizes follows.held in

@@ -1,5 +1,6 @@
 -- What a turn does.
-use Rattle.std.specs.Prelude.{Ok, Err, ◌≡◌, ◌≢◌, ◌⊎◌, ℕ, ◌+◌, ◌%◌, ◌<◌, ◌==◌, if◌then◌else◌, Result, Option, Some, None, IsSome, IsTrue, IsFalse}
+use Rattle.std.specs.Prelude.{Ok, Err, ◌≡◌, ◌≢◌, ◌⊎◌, ℕ, ◌+◌, ◌%◌, ◌<◌, ◌==◌, if◌then◌else◌, Result, Option, Some, None, IsSome, IsTrue}
+use Rattle.std.specs.Prelude.{IsFalse}
 use Rattle.bm_base.specs.Area.{area_after}
 use Rattle.bm_base.specs.Contents.{Contents, RackUnit}
 use Rattle.bm_forms.specs.declared.pass_form.PassForm.{PassForm}

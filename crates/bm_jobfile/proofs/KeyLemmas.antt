@@ -18,5 +18,6 @@ has_only-keys names (e ∷ es) = ap (λ b. is_one_of names (string_bytes e.0) &&
 
 -- one key more
 pub one_key : (names : List (List ℕ)) (key : String Global) (keys : List (String Global)) (b whole : Bool)
-    → whole ≡ list_all (is_named names) (key ∷ keys) → is_one_of names (string_bytes key) ≡ b → whole ≡ (b && list_all (is_named names) keys)
+    → whole ≡ list_all (is_named names) (key ∷ keys) → is_one_of names (string_bytes key) ≡ b
+    → whole ≡ (b && list_all (is_named names) keys)
 one_key names key keys b whole left named = left ∙ ap (λ v. v && list_all (is_named names) keys) named

@@ -69,7 +69,8 @@ named_once : (n : ℕ) (named : NamedMap) (f g : ℕ → ℕ) → NamedIsFaultle
     → ((x : ℕ) → f x < 2 ^ n) → ((x : ℕ) → g x < 2 ^ n) → (x : ℕ) → x < 2 ^ n → f x ≡ g x
 named_once n Identity f g ok p q low low' x b = p x b ∙ sym (q x b)
 named_once n Reversal f g ok p q low low' x b = p x b ∙ sym (q x b)
-named_once n BitReversal f g ok p q low low' x b = same_from_bits_below n (f x) (g x) (low x) (low' x) (λ i inside. p x i b inside ∙ sym (q x i b inside))
+named_once n BitReversal f g ok p q low low' x b = same_from_bits_below n (f x) (g x) (low x) (low' x) (λ i inside. p x i b inside
+    ∙ sym (q x i b inside))
 named_once n (Transpose s) f g ok p q low low' x b =
     let side : s ≤ n = omega (arith, λ (wide : n < s). ok (fault.Side s) (refl, wide)) in
     let whole : s + (n - s) ≡ n = omega arith in
@@ -79,10 +80,14 @@ named_once n (Transpose s) f g ok p q low low' x b =
     ap f (sym is) ∙ p (x / 2 ^ (n - s)) (x % 2 ^ (n - s)) row col
     ∙ sym (q (x / 2 ^ (n - s)) (x % 2 ^ (n - s)) row col) ∙ ap g is
 named_once n Gray f g ok p q low low' x b = p x b ∙ sym (q x b)
-named_once n InverseGray f g ok p q low low' x b = same_from_bits_below n (f x) (g x) (low x) (low' x) (λ i inside. p x i b inside ∙ sym (q x i b inside))
-named_once n (Rotation by) f g ok p q low low' x b = same_from_bits_below n (f x) (g x) (low x) (low' x) (λ i inside. p x i b inside ∙ sym (q x i b inside))
-named_once n (Bits list) f g ok p q low low' x b = same_from_bits_below n (f x) (g x) (low x) (low' x) (λ i inside. p x i b inside ∙ sym (q x i b inside))
-named_once n (Rows rows) f g ok p q low low' x b = same_from_bits_below n (f x) (g x) (low x) (low' x) (λ i inside. p x i b inside ∙ sym (q x i b inside))
+named_once n InverseGray f g ok p q low low' x b = same_from_bits_below n (f x) (g x) (low x) (low' x) (λ i inside. p x i b inside
+    ∙ sym (q x i b inside))
+named_once n (Rotation by) f g ok p q low low' x b = same_from_bits_below n (f x) (g x) (low x) (low' x) (λ i inside. p x i b inside
+    ∙ sym (q x i b inside))
+named_once n (Bits list) f g ok p q low low' x b = same_from_bits_below n (f x) (g x) (low x) (low' x) (λ i inside. p x i b inside
+    ∙ sym (q x i b inside))
+named_once n (Rows rows) f g ok p q low low' x b = same_from_bits_below n (f x) (g x) (low x) (low' x) (λ i inside. p x i b inside
+    ∙ sym (q x i b inside))
 
 -- a map of n bits, followed by XOR with a number of n bits
 value_below : (n c : ℕ) (f : Affine) → f.a.n ≡ n → c < 2 ^ n → (x : ℕ) → bit_xor (affine_image f x) c < 2 ^ n

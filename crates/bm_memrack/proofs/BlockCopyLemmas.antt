@@ -1,5 +1,7 @@
 -- A row that is served disk by disk: one disk more was read or written.
-use Rattle.std.proofs.Common.{◌≡◌, ◌≢◌, inl, inr, ℕ, ◌+◌, ◌-◌, ◌*◌, ◌<◌, ◌≤◌, Bool, true, false, List, ◌++◌, length, take, drop, slice_index_or, set, Option, Some, None, is_some, sym, ◌∙◌, ap, refl, subst, arith, get_or-set_same, get_or-set_other}
+use Rattle.std.proofs.Common.{◌≡◌, ◌≢◌, inl, inr, ℕ, ◌+◌, ◌-◌, ◌*◌, ◌<◌, ◌≤◌, Bool, true, false, List, ◌++◌, length, take, drop}
+use Rattle.std.proofs.Common.{slice_index_or, set, Option, Some, None, is_some, sym, ◌∙◌, ap, refl, subst, arith, get_or-set_same}
+use Rattle.std.proofs.Common.{get_or-set_other}
 use Rattle.std.proofs.lemmas.Nat.{mul-add-lt, same_from_place}
 use Rattle.std.proofs.lemmas.Bool.{cases_lt, false≢true}
 use Rattle.std.proofs.lemmas.List.{length-take-le, take-take, drop-take, drop_at, drop_all, take_all, append-nil}
@@ -154,7 +156,8 @@ write_more dims k p len places bytes old new old_dirty new_dirty inside in_disk 
       ∙ was.others disk place a b (λ is below. apart is (omega arith));
   other_dirty = λ disk place a b apart.
       get_or-set_other new_dirty (number dims k p) (number dims disk place) true false
-      (number_apart dims disk place k p b in_disk (λ same at. apart (ap (λ x. place_on places x) same ∙ some ∙ ap Some (sym at)) (omega arith)))
+      (number_apart dims disk place k p b in_disk (λ same at. apart (ap (λ x. place_on places x) same ∙ some ∙ ap Some (sym at))
+      (omega arith)))
       ∙ was.other_dirty disk place a b (λ is below. apart is (omega arith));
 }
   where

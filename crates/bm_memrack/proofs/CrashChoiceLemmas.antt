@@ -1,5 +1,6 @@
 -- A list of units of which a stop leaves what is chosen, unit by unit.
-use Rattle.std.proofs.Common.{◌≡◌, ◌≢◌, inl, inr, ℕ, ◌+◌, ◌*◌, ◌<◌, ◌≤◌, Bool, true, false, zero, suc, if◌then◌else◌, List, length, slice_index_or, sym, ◌∙◌, ap, refl, subst, arith, length-append, length-take}
+use Rattle.std.proofs.Common.{◌≡◌, ◌≢◌, inl, inr, ℕ, ◌+◌, ◌*◌, ◌<◌, ◌≤◌, Bool, true, false, zero, suc, if◌then◌else◌, List, length}
+use Rattle.std.proofs.Common.{slice_index_or, sym, ◌∙◌, ap, refl, subst, arith, length-append, length-take}
 use Rattle.std.specs.Fork.{slice_chunk}
 use Rattle.std.proofs.lemmas.Bool.{cases_lt}
 use Rattle.std.proofs.lemmas.List.{length-replicate}
@@ -88,7 +89,8 @@ chosen_more dirty first pick size p old new left inside is long left_is was = re
     | inl early ↦ other k (omega arith) ∙ was.units k early
     | inr late ↦
         let same : k ≡ p = omega arith in
-        subst (λ j. slice_chunk (put_mid (p * size) size new left) size j ≡ unit_after (flag_at dirty) first pick j (slice_chunk old size j))
+        subst (λ j. slice_chunk (put_mid (p * size) size new left) size j ≡ unit_after (flag_at dirty) first pick j
+        (slice_chunk old size j))
         (sym same) own
   ];
   later = λ k above below. other k (omega arith) ∙ was.later k (omega arith) below;

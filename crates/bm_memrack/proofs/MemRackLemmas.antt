@@ -1,5 +1,6 @@
 -- A rack in memory that fails as it was told, and what a stop leaves of it.
-use Rattle.std.proofs.Common.{◌≡◌, inl, inr, ℕ, ◌+◌, ◌*◌, ◌/◌, ◌%◌, ◌^◌, ◌<◌, ◌≤◌, Bool, true, false, if◌then◌else◌, List, ◌++◌, length, length-take, take, drop, Option, Some, Result, Ok, Err, IsOk, IsErr, is_err, sym, ◌∙◌, ap, refl, subst, arith}
+use Rattle.std.proofs.Common.{◌≡◌, inl, inr, ℕ, ◌+◌, ◌*◌, ◌/◌, ◌%◌, ◌^◌, ◌<◌, ◌≤◌, Bool, true, false, if◌then◌else◌, List, ◌++◌, length}
+use Rattle.std.proofs.Common.{length-take, take, drop, Option, Some, Result, Ok, Err, IsOk, IsErr, is_err, sym, ◌∙◌, ap, refl, subst, arith}
 use Rattle.std.specs.Fork.{slice_chunk}
 use Rattle.std.proofs.lemmas.Bool.{cases_lt, false≢true}
 use Rattle.std.proofs.Math.Nat.{div-add-mod, div-lt_iff_lt-mul, mod-lt}
@@ -73,7 +74,8 @@ LeavesSlate pick s t = (k : ℕ) → k < 516
 abbrev pub LeavesBlocks : ℕ → Store → Store → Type 0
 LeavesBlocks pick s t = (k : ℕ) → k < s.dims.disks * s.dims.places
     → slice_chunk t.flat.items s.dims.block k
-    ≡ unit_after (flag_at s.dirty_blocks.items) (dirty_count (flag_at s.dirty_pages.items) 516) pick k (slice_chunk s.flat.items s.dims.block k)
+    ≡ unit_after (flag_at s.dirty_blocks.items) (dirty_count (flag_at s.dirty_pages.items) 516) pick k
+    (slice_chunk s.flat.items s.dims.block k)
 
 -- a stop leaves the units that are not dirty
 crash_keeps : (s t : Store) (pick : ℕ) → t.dims ≡ s.dims → LeavesSlate pick s t → LeavesBlocks pick s t

@@ -1,5 +1,7 @@
 -- What the calls do to a store, as a contract sees it.
-use Rattle.std.proofs.Common.{◌≡◌, inl, inr, ℕ, ◌+◌, ◌*◌, ◌<◌, ◌≤◌, Bool, true, false, List, [], ◌++◌, length, slice_index_or, take, drop, set, map, replicate, Option, Some, None, Result, Ok, IsOk, sym, ◌∙◌, ap, refl, subst, arith, length-take, length-drop, get_or-set_same, get_or-set_other}
+use Rattle.std.proofs.Common.{◌≡◌, inl, inr, ℕ, ◌+◌, ◌*◌, ◌<◌, ◌≤◌, Bool, true, false, List, [], ◌++◌, length, slice_index_or, take, drop}
+use Rattle.std.proofs.Common.{set, map, replicate, Option, Some, None, Result, Ok, IsOk, sym, ◌∙◌, ap, refl, subst, arith, length-take}
+use Rattle.std.proofs.Common.{length-drop, get_or-set_same, get_or-set_other}
 use Rattle.std.specs.List.{range_with_len}
 use Rattle.std.specs.Fork.{slice_chunk}
 use Rattle.std.proofs.lemmas.List.{get_or_past, take_all, length-replicate, get_or-replicate, get_or-take, get_or-drop, ext_get_or}
@@ -13,7 +15,8 @@ use Rattle.bm_base.proofs.ChunkLemmas.{chunk_other, chunk_same, block_fits_at}
 use Rattle.bm_rack.specs.Calls.{RowRead, RowWritten, RowFits, PageWritten, Synced, InRow, IsPage, CreateDone, disk_bytes}
 use Rattle.bm_memrack.specs.declared.store.Store.{Store}
 use Rattle.bm_memrack.specs.BlockCopy.{number, flat_at, flag_at, AreOnDisks, BlocksRead, BlocksWritten}
-use Rattle.bm_memrack.specs.Store.{table, entry_at, blocks_of, flags_of, slate_page, pages_of, contents_of, dirty_of, stands_at, contents_at, attached_at, memory_view}
+use Rattle.bm_memrack.specs.Store.{table, entry_at, blocks_of, flags_of, slate_page, pages_of, contents_of, dirty_of, stands_at}
+use Rattle.bm_memrack.specs.Store.{contents_at, attached_at, memory_view}
 use Rattle.bm_memrack.specs.SizeLemmas.{table_at, table_row, block_of, page_of}
 use Rattle.bm_memrack.proofs.BlockCopyLemmas.{number_below, chunk_short, whole_unit}
 
@@ -30,7 +33,8 @@ past_place : {X : Type 0} (dims : Dims) (f : ℕ → ℕ → X) (d : X) (disk pl
     → entry_at (table dims f) d disk place ≡ d
 past_place dims f d disk place on_disk past =
     ap (λ row. slice_index_or row place d) (table_row dims f disk on_disk)
-    ∙ get_or_past (map (λ p. f disk p) (range_with_len 0 dims.places)) place d (rw (length-map-range_with_len (λ p. f disk p) 0 dims.places) past)
+    ∙ get_or_past (map (λ p. f disk p) (range_with_len 0 dims.places)) place d
+    (rw (length-map-range_with_len (λ p. f disk p) 0 dims.places) past)
 
 past_disk : {X : Type 0} (dims : Dims) (f : ℕ → ℕ → X) (d : X) (disk place : ℕ) → dims.disks ≤ disk
     → entry_at (table dims f) d disk place ≡ d
@@ -82,7 +86,8 @@ pub all_clean : (s : Store) → ((k : ℕ) → flag_at s.dirty_blocks.items k �
     → (u : RackUnit) → dirty_of s u ≡ false
 unfolding dirty_of
 all_clean s blocks pages (block_unit disk place) =
-    table_default s.dims (λ d p. flag_at s.dirty_blocks.items (number s.dims d p)) false disk place (λ _ _. blocks (number s.dims disk place))
+    table_default s.dims (λ d p. flag_at s.dirty_blocks.items (number s.dims d p)) false disk place
+    (λ _ _. blocks (number s.dims disk place))
 all_clean s blocks pages (page_unit page) = pages page
 
 -- where the blocks and flags of other disks and places are as before, so are those units
@@ -101,7 +106,8 @@ flag_moved : (s t : Store) (disk place : ℕ) → t.dims ≡ s.dims
 unfolding dirty_of
 flag_moved s t disk place d same =
     ap (λ (dims : Dims). entry_at (flags_of dims t.dirty_blocks.items) false disk place) d
-    ∙ table_agree s.dims (λ k p. flag_at t.dirty_blocks.items (number s.dims k p)) (λ k p. flag_at s.dirty_blocks.items (number s.dims k p)) false disk place same
+    ∙ table_agree s.dims (λ k p. flag_at t.dirty_blocks.items (number s.dims k p)) (λ k p. flag_at s.dirty_blocks.items (number s.dims k p))
+    false disk place same
 
 -- a block of a store that has these sizes
 pub block_there : (s t : Store) (disk place : ℕ) → t.dims ≡ s.dims → disk < s.dims.disks → place < s.dims.places

@@ -1,5 +1,6 @@
 -- The contents of a rack in memory have its sizes. These proofs stand in specs/, since the law of an `impl` takes none from proofs/.
-use Rattle.std.proofs.Common.{◌≡◌, ℕ, ◌+◌, ◌*◌, ◌^◌, ◌<◌, ◌≤◌, Bool, true, false, [], length, slice_index_or, map, Option, Some, None, ◌∙◌, ap, subst, arith, length-take, length-drop}
+use Rattle.std.proofs.Common.{◌≡◌, ℕ, ◌+◌, ◌*◌, ◌^◌, ◌<◌, ◌≤◌, Bool, true, false, [], length, slice_index_or, map, Option, Some, None, ◌∙◌}
+use Rattle.std.proofs.Common.{ap, subst, arith, length-take, length-drop}
 use Rattle.std.specs.List.{range_with_len}
 use Rattle.std.proofs.lemmas.List.FromFn.{length-map-range_with_len, get_or-map-range_with_len}
 use Rattle.std.proofs.lemmas.Nat.{mul-add-lt}
@@ -44,7 +45,8 @@ sizes_of s = record {
   page = λ page below. ap length (page_of s page below) ∙ page_long page below;
 }
   where
-    block_long : (disk place : ℕ) → disk < s.dims.disks → place < s.dims.places → length (flat_at s.dims s.flat.items disk place) ≡ s.dims.block
+    block_long : (disk place : ℕ) → disk < s.dims.disks → place < s.dims.places
+        → length (flat_at s.dims s.flat.items disk place) ≡ s.dims.block
     block_long disk place on_disk at_place =
         let n = number s.dims disk place in
         let below = mul-add-lt disk s.dims.places place s.dims.disks on_disk at_place in

@@ -6,7 +6,8 @@ use Rattle.std.proofs.lemmas.Nat.{pow_pos}
 use Rattle.std.proofs.Math.Nat.{pow-suc, mod-eq_of_lt}
 use Rattle.std.proofs.lemmas.Nat.Bits.{bit_at_ones, bit_at_ones_above}
 use Rattle.bm_gf2.specs.Vector.{xor_sum}
-use Rattle.bm_gf2.proofs.VectorLemmas.{xor_same, xor_sum-zeros, xor_swap, xor_cancel_right, xor_sum-map, xor_sum-ext, xor_sum-units, xor_sum-bit, xor_sum-split, eq_of_xor-zero}
+use Rattle.bm_gf2.proofs.VectorLemmas.{xor_same, xor_sum-zeros, xor_swap, xor_cancel_right, xor_sum-map, xor_sum-ext, xor_sum-units}
+use Rattle.bm_gf2.proofs.VectorLemmas.{xor_sum-bit, xor_sum-split, eq_of_xor-zero}
 use Rattle.bm_named.specs.GrayCode.{gray_of, xor_of_bits}
 
 -- the code of a sum is the sum of the codes

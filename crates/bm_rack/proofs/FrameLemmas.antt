@@ -16,14 +16,16 @@ raised-raised n a b = omega arith
 pub raised-mono : (n a b : ℕ) → a ≤ b → raised n a ≤ raised n b
 raised-mono n a b h = omega arith
 
-pub RaisesCounts-refl : (tells_stands tells_contents : Bool) (v : RackView) → IsWellFormed tells_stands tells_contents v → RaisesCounts 0 0 0 v v
+pub RaisesCounts-refl : (tells_stands tells_contents : Bool) (v : RackView) → IsWellFormed tells_stands tells_contents v
+    → RaisesCounts 0 0 0 v v
 RaisesCounts-refl _ _ v k = record {
   moves = sym (raised-zero v.moves k.moves);
   pages = sym (raised-zero v.pages k.pages);
   syncs = sym (raised-zero v.syncs k.syncs);
 }
 
-pub RaisesCounts-trans : (m p s m' p' s' : ℕ) (a b c : RackView) → RaisesCounts m p s a b → RaisesCounts m' p' s' b c → RaisesCounts (m + m') (p + p') (s + s') a c
+pub RaisesCounts-trans : (m p s m' p' s' : ℕ) (a b c : RackView) → RaisesCounts m p s a b → RaisesCounts m' p' s' b c
+    → RaisesCounts (m + m') (p + p') (s + s') a c
 RaisesCounts-trans m p s m' p' s' a b c x y = record {
   moves = y.moves ∙ ap (λ n. raised n m') x.moves ∙ raised-raised a.moves m m';
   pages = y.pages ∙ ap (λ n. raised n p') x.pages ∙ raised-raised a.pages p p';
@@ -110,12 +112,14 @@ DirtiesOnly-wider P Q a b w x = record {
   dirty = λ u h. x.dirty u (λ p. h (w u p));
 }
 
-clean_by : {T : Type 0} (old new : RackView) (r : Result T Failed) (u : RackUnit) → Synced old r new → old.dirty u ≡ false → new.dirty u ≡ false
+clean_by : {T : Type 0} (old new : RackView) (r : Result T Failed) (u : RackUnit) → Synced old r new → old.dirty u ≡ false
+    → new.dirty u ≡ false
 clean_by old new (Ok x) u s h = s.clean refl u
 clean_by old new (Err e) u s h = ap (λ (d : RackUnit → Bool). d u) (s.failed refl) ∙ h
 
 -- a sync, whether it fails or not
-pub DirtiesOnly-synced : {T : Type 0} (P : RackUnit → Type 0) (old new : RackView) (r : Result T Failed) → Synced old r new → DirtiesOnly P old new
+pub DirtiesOnly-synced : {T : Type 0} (P : RackUnit → Type 0) (old new : RackView) (r : Result T Failed) → Synced old r new
+    → DirtiesOnly P old new
 DirtiesOnly-synced P old new r s = record {
   stands = s.stands;
   attached = s.attached;

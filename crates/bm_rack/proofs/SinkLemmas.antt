@@ -1,17 +1,20 @@
 -- Fronts of bytes that are written part by part.
-use Rattle.std.proofs.Common.{◌≡◌, ℕ, ◌+◌, ◌-◌, ◌≤◌, List, ◌++◌, length, take, drop, sym, ◌∙◌, ap, subst, arith, length-append, length-take, length-drop, append_assoc}
+use Rattle.std.proofs.Common.{◌≡◌, ℕ, ◌+◌, ◌-◌, ◌≤◌, List, ◌++◌, length, take, drop, sym, ◌∙◌, ap, subst, arith, length-append, length-take}
+use Rattle.std.proofs.Common.{length-drop, append_assoc}
 use Rattle.std.proofs.Math.Seq.{take-add, take-append-add}
 use Rattle.std.proofs.lemmas.List.{take-take, take-append-le}
 use Rattle.bm_rack.specs.Sink.{AppendsFront}
 
 -- a front of the rest ends within the bytes
-pub front_within : (bytes : List ℕ) (at k : ℕ) → at ≤ length bytes → k ≤ length (take (length bytes - at) (drop at bytes)) → at + k ≤ length bytes
+pub front_within : (bytes : List ℕ) (at k : ℕ) → at ≤ length bytes → k ≤ length (take (length bytes - at) (drop at bytes))
+    → at + k ≤ length bytes
 front_within bytes at k before fits =
     let rest : k ≤ length bytes - at = omega (arith, simp (length-take, length-drop) at fits) in
     omega arith
 
 -- a front of the rest, after the bytes before it
-pub front_longer : (before bytes now new : List ℕ) (at k : ℕ) → k ≤ length (take (length bytes - at) (drop at bytes)) → now ≡ before ++ take at bytes
+pub front_longer : (before bytes now new : List ℕ) (at k : ℕ) → k ≤ length (take (length bytes - at) (drop at bytes))
+    → now ≡ before ++ take at bytes
     → new ≡ now ++ take k (take (length bytes - at) (drop at bytes)) → new ≡ before ++ take (at + k) bytes
 front_longer before bytes now new at k fits was e =
     let rest : k ≤ length bytes - at = omega (arith, simp (length-take, length-drop) at fits) in

@@ -1,5 +1,6 @@
 -- What each call of a rack needs, answers and changes.
-use Rattle.std.specs.Prelude.{Ok, Err, ◌≡◌, ℕ, ◌*◌, ◌<◌, Bool, true, IsTrue, List, length, slice_index_or, replicate, Option, Some, None, Result, IsOk, IsErr}
+use Rattle.std.specs.Prelude.{Ok, Err, ◌≡◌, ℕ, ◌*◌, ◌<◌, Bool, true, IsTrue, List, length, slice_index_or, replicate, Option, Some, None}
+use Rattle.std.specs.Prelude.{Result, IsOk, IsErr}
 use Rattle.std.specs.Fork.{slice_chunk}
 use Rattle.bm_base.specs.declared.dims.Dims.{Dims}
 use Rattle.bm_base.specs.declared.fault.Failed.{Failed}
@@ -29,8 +30,10 @@ abbrev pub disk_bytes : Dims → ℕ → List ℕ → List ℕ
 disk_bytes dims disk bytes = slice_chunk bytes dims.block disk
 
 -- a row was read: a read that succeeds gives the contents, and disks that take no part keep their bytes
-pub record RowRead {T : Type 0} (told : Bool) (dims : Dims) (contents : Contents) (places : List (Option ℕ)) (result : Result T Failed) (old new : List ℕ) : Type 0 where
-  pub taking : IsTrue told → IsOk result → (disk place : ℕ) → disk < dims.disks → place_on places disk ≡ Some place → disk_bytes dims disk new ≡ block_at contents disk place
+pub record RowRead {T : Type 0} (told : Bool) (dims : Dims) (contents : Contents) (places : List (Option ℕ)) (result : Result T Failed)
+    (old new : List ℕ) : Type 0 where
+  pub taking : IsTrue told → IsOk result → (disk place : ℕ) → disk < dims.disks → place_on places disk ≡ Some place
+      → disk_bytes dims disk new ≡ block_at contents disk place
   pub resting : (disk : ℕ) → disk < dims.disks → place_on places disk ≡ None → disk_bytes dims disk new ≡ disk_bytes dims disk old
 
 -- a unit of a row
@@ -39,10 +42,13 @@ InRow places (block_unit disk place) = place_on places disk ≡ Some place
 InRow places (page_unit page) = ⊥
 
 -- a row was written: its units take the bytes where it succeeds, hold anything where it fails, and are dirty either way
-pub record RowWritten {T : Type 0} (told : Bool) (dims : Dims) (old : RackView) (places : List (Option ℕ)) (bytes : List ℕ) (result : Result T Failed) (new : RackView) : Type 0 where
+pub record RowWritten {T : Type 0} (told : Bool) (dims : Dims) (old : RackView) (places : List (Option ℕ)) (bytes : List ℕ)
+    (result : Result T Failed) (new : RackView) : Type 0 where
   pub only : ChangesOnly (InRow places) old new
-  pub taking : IsTrue told → IsOk result → (disk place : ℕ) → disk < dims.disks → place_on places disk ≡ Some place → block_at new.contents disk place ≡ disk_bytes dims disk bytes
-  pub own_dirty : IsTrue told → (disk place : ℕ) → disk < dims.disks → place_on places disk ≡ Some place → new.dirty (block_unit disk place) ≡ true
+  pub taking : IsTrue told → IsOk result → (disk place : ℕ) → disk < dims.disks → place_on places disk ≡ Some place
+      → block_at new.contents disk place ≡ disk_bytes dims disk bytes
+  pub own_dirty : IsTrue told → (disk place : ℕ) → disk < dims.disks → place_on places disk ≡ Some place
+      → new.dirty (block_unit disk place) ≡ true
 
 -- this page
 abbrev pub IsPage : ℕ → RackUnit → Type 0
@@ -54,7 +60,8 @@ abbrev pub PageRead : {T : Type 0} → Bool → Contents → ℕ → Result T Fa
 PageRead told contents page result bytes = IsTrue told → IsOk result → bytes ≡ page_at contents page
 
 -- a page was written: it takes the bytes where it succeeds, holds anything where it fails, and is dirty either way
-pub record PageWritten {T : Type 0} (told : Bool) (old : RackView) (page : ℕ) (bytes : List ℕ) (result : Result T Failed) (new : RackView) : Type 0 where
+pub record PageWritten {T : Type 0} (told : Bool) (old : RackView) (page : ℕ) (bytes : List ℕ) (result : Result T Failed)
+    (new : RackView) : Type 0 where
   pub only : ChangesOnly (IsPage page) old new
   pub taking : IsTrue told → IsOk result → page_at new.contents page ≡ bytes
   pub own_dirty : IsTrue told → new.dirty (page_unit page) ≡ true
@@ -101,7 +108,8 @@ pub record IsBlank (dims : Dims) (c : Contents) : Type 0 where
   pub pages : (page : ℕ) → page < 516 → page_at c page ≡ replicate 512 0
 
 -- a create makes a rack of zeros where nothing stands, and on a refusal leaves what stands; nothing is attached after it
-pub record CreateDone {T : Type 0} (told_stands told_contents : Bool) (dims : Dims) (old : RackView) (result : Result T CreateError) (new : RackView) : Type 0 where
+pub record CreateDone {T : Type 0} (told_stands told_contents : Bool) (dims : Dims) (old : RackView) (result : Result T CreateError)
+    (new : RackView) : Type 0 where
   pub answer : IsTrue told_stands → CreateAnswer old.stands result
   pub attached : new.attached ≡ None
   pub made : IsTrue told_stands → IsOk result → new.stands ≡ Some dims

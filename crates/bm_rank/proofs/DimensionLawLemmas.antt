@@ -1,5 +1,6 @@
 -- The rank is the dimension of the span.
-use Rattle.std.proofs.Common.{◌≡◌, ◌≢◌, ℕ, zero, suc, ◌+◌, ◌-◌, ◌*◌, ◌/◌, ◌%◌, ◌^◌, ◌<◌, ◌≤◌, ◌↔◌, true, false, List, [], ◌∷◌, length, take, slice_index, bit_xor, sym, ap, ◌∙◌, subst, arith, inl, inr, ⊎_elim, ◌⊎◌}
+use Rattle.std.proofs.Common.{◌≡◌, ◌≢◌, ℕ, zero, suc, ◌+◌, ◌-◌, ◌*◌, ◌/◌, ◌%◌, ◌^◌, ◌<◌, ◌≤◌, ◌↔◌, true, false, List, [], ◌∷◌, length, take}
+use Rattle.std.proofs.Common.{slice_index, bit_xor, sym, ap, ◌∙◌, subst, arith, inl, inr, ⊎_elim, ◌⊎◌}
 use Rattle.std.specs.Int.{bit_at}
 use Rattle.std.specs.Int.Bits.{xor_zero_l, xor_zero_r}
 use Rattle.std.proofs.Math.Nat.{pow-le-pow_right, two-pow-succ, div-one}
@@ -9,7 +10,8 @@ use Rattle.std.proofs.lemmas.Bool.{cases_lt, cases_eq, false≢true}
 use Rattle.bm_gf2.specs.Vector.{xor_sum}
 use Rattle.bm_gf2.specs.declared.matrix.Matrix.{Matrix}
 use Rattle.bm_gf2.specs.Matrix.{image, IsNonsingular}
-use Rattle.bm_gf2.proofs.VectorLemmas.{xor_sum_start, xor_sum-more, xor_sum-ext, xor_sum-lt, xor_same, bit_cases, bit_of_xor, eq_of_xor-zero}
+use Rattle.bm_gf2.proofs.VectorLemmas.{xor_sum_start, xor_sum-more, xor_sum-ext, xor_sum-lt, xor_same, bit_cases, bit_of_xor}
+use Rattle.bm_gf2.proofs.VectorLemmas.{eq_of_xor-zero}
 use Rattle.bm_rank.specs.Echelon.{IsRowEchelon, IsReduced, IsEchelon, pivot_count, weight}
 use Rattle.bm_rank.specs.Span.{in_span, sum_of}
 use Rattle.bm_rank.specs.Rank.{rank, cut_columns, rank_of_rows, IsBasis}

@@ -1,5 +1,7 @@
 -- Fewer than n vectors do not span all vectors below 2 ^ n.
-use Rattle.std.proofs.Common.{◌≡◌, ◌≢◌, ℕ, zero, suc, ◌+◌, ◌*◌, ◌/◌, ◌%◌, ◌^◌, ◌<◌, ◌≤◌, true, false, List, [], ◌∷◌, length, length-take, get_or-take, take, set, replicate, slice_index, bit_and, bit_xor, refl, sym, ap, ◌∙◌, subst, arith, add-one, inl, inr, ⊎_elim}
+use Rattle.std.proofs.Common.{◌≡◌, ◌≢◌, ℕ, zero, suc, ◌+◌, ◌*◌, ◌/◌, ◌%◌, ◌^◌, ◌<◌, ◌≤◌, true, false, List, [], ◌∷◌, length, length-take}
+use Rattle.std.proofs.Common.{get_or-take, take, set, replicate, slice_index, bit_and, bit_xor, refl, sym, ap, ◌∙◌, subst, arith, add-one}
+use Rattle.std.proofs.Common.{inl, inr, ⊎_elim}
 use Rattle.std.specs.Int.Bits.{xor_zero_r, xor_self}
 use Rattle.std.proofs.Math.Nat.{mod-lt, two-pow-succ}
 use Rattle.std.proofs.lemmas.Nat.{pow_pos, pow_below, leading_top}
@@ -19,7 +21,8 @@ use Rattle.bm_rank.proofs.RankBoundLemmas.{rank-nil, rank-le-length}
 use Rattle.bm_rank.proofs.KernelLemmas.{IsIndependent}
 use Rattle.bm_rank.specs.Echelon.{IsEchelon}
 use Rattle.bm_rank.specs.Span.{sum_of}
-use Rattle.bm_rank.proofs.SpanLemmas.{sum_of_span, sum_of-cons, lowest_odd, lowest_even, in_span-cons_known, in_span-cons_same, in_span-push}
+use Rattle.bm_rank.proofs.SpanLemmas.{sum_of_span, sum_of-cons, lowest_odd, lowest_even, in_span-cons_known, in_span-cons_same}
+use Rattle.bm_rank.proofs.SpanLemmas.{in_span-push}
 use Rattle.bm_rank.proofs.ReductionLemmas.{IsReduction, reduction_start, reduction_taken, reduction_left}
 use Rattle.bm_rank.proofs.PivotLemmas.{one_row}
 use Rattle.bm_rank.proofs.EchelonLemmas.{none_kept, grown, count_fits, count_le, in_span_of_rest, no_span_of_rest}

@@ -1,12 +1,15 @@
 -- One more vector in an echelon.
-use Rattle.std.proofs.Common.{◌≡◌, ◌≢◌, ℕ, ◌+◌, ◌*◌, ◌^◌, ◌<◌, ◌≤◌, true, false, List, length, take, set, slice_index, bit_xor, refl, sym, ap, ◌∙◌, subst, arith, ⊎_elim, get_or-set_other, get_or-set_same}
+use Rattle.std.proofs.Common.{◌≡◌, ◌≢◌, ℕ, ◌+◌, ◌*◌, ◌^◌, ◌<◌, ◌≤◌, true, false, List, length, take, set, slice_index, bit_xor, refl, sym}
+use Rattle.std.proofs.Common.{ap, ◌∙◌, subst, arith, ⊎_elim, get_or-set_other, get_or-set_same}
 use Rattle.std.specs.Int.{bit_at}
 use Rattle.std.specs.Int.Bits.{xor_assoc, xor_zero_r}
 use Rattle.std.proofs.lemmas.Nat.{xor_comm, xor_lt, pow_below, pow_pos}
 use Rattle.std.proofs.lemmas.Nat.Bits.{bit_at-lt, bit_at_above, bit_at-zero, same_from_bits_below}
 use Rattle.std.proofs.lemmas.Bool.{cases_lt, cases_eq}
 use Rattle.bm_gf2.specs.Vector.{xor_sum}
-use Rattle.bm_gf2.proofs.VectorLemmas.{xor_sum_start, xor_sum-xor, xor_sum-zero, xor_sum-pow, xor_sum-xor_sum, xor_sum-ext, xor_sum-bits, xor_sum-more, xor_sum-lt, bit_cases, xor_same, xor_cancel_right, eq_of_xor-zero, xor_cancel, zero_times}
+use Rattle.bm_gf2.proofs.VectorLemmas.{xor_sum_start, xor_sum-xor, xor_sum-zero, xor_sum-pow, xor_sum-xor_sum, xor_sum-ext, xor_sum-bits}
+use Rattle.bm_gf2.proofs.VectorLemmas.{xor_sum-more, xor_sum-lt, bit_cases, xor_same, xor_cancel_right, eq_of_xor-zero, xor_cancel}
+use Rattle.bm_gf2.proofs.VectorLemmas.{zero_times}
 use Rattle.bm_rank.specs.Echelon.{IsRowEchelon, IsReduced, pivot_count}
 use Rattle.bm_rank.specs.Span.{in_span}
 use Rattle.bm_rank.specs.Echelon.{IsEchelon}

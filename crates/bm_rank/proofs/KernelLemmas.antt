@@ -1,5 +1,7 @@
 -- Columns that are independent, and the least vector that shows that they aren't.
-use Rattle.std.proofs.Common.{◌≡◌, ◌≢◌, ℕ, ◌+◌, ◌-◌, ◌*◌, ◌/◌, ◌%◌, ◌^◌, ◌<◌, ◌≤◌, Bool, true, false, not, if◌then◌else◌, List, [], ◌∷◌, ◌++◌, length, length-take, set, get_or-set_same, get_or-set_other, take, slice_index, bit_xor, refl, sym, ap, ◌∙◌, subst, arith, add-one, ⊎_elim}
+use Rattle.std.proofs.Common.{◌≡◌, ◌≢◌, ℕ, ◌+◌, ◌-◌, ◌*◌, ◌/◌, ◌%◌, ◌^◌, ◌<◌, ◌≤◌, Bool, true, false, not, if◌then◌else◌, List, [], ◌∷◌}
+use Rattle.std.proofs.Common.{◌++◌, length, length-take, set, get_or-set_same, get_or-set_other, take, slice_index, bit_xor, refl, sym, ap}
+use Rattle.std.proofs.Common.{◌∙◌, subst, arith, add-one, ⊎_elim}
 use Rattle.std.specs.Int.{bit_at}
 use Rattle.std.specs.Int.Bits.{xor_self, xor_zero_r}
 use Rattle.std.proofs.lemmas.Nat.{xor_lt, pow_pos, shr_below, shr_split, one_shl}
@@ -8,7 +10,8 @@ use Rattle.std.proofs.Math.Nat.{pow-le-pow_right, two-pow-succ, mod-lt, mod-eq_o
 use Rattle.std.proofs.lemmas.Nat.Bits.{bit_at-lt}
 use Rattle.std.proofs.lemmas.Bool.{cases_lt, cases_eq}
 use Rattle.bm_gf2.specs.Vector.{xor_sum}
-use Rattle.bm_gf2.proofs.VectorLemmas.{xor_pow_above, xor_sum-xor, xor_sum-pow, xor_sum-above, xor_sum-more, xor_sum-xor_sum, xor_sum-ext, xor_sum-units, xor_sum-lt, bit_cases, xor_same, eq_of_xor-zero}
+use Rattle.bm_gf2.proofs.VectorLemmas.{xor_pow_above, xor_sum-xor, xor_sum-pow, xor_sum-above, xor_sum-more, xor_sum-xor_sum, xor_sum-ext}
+use Rattle.bm_gf2.proofs.VectorLemmas.{xor_sum-units, xor_sum-lt, bit_cases, xor_same, eq_of_xor-zero}
 use Rattle.bm_gf2.specs.declared.matrix.Matrix.{Matrix}
 use Rattle.bm_gf2.specs.Kernel.{IsLeastKernel}
 use Rattle.bm_rank.specs.Span.{in_span}

@@ -1,5 +1,6 @@
 -- Leading bits, and how many rows have one.
-use Rattle.std.proofs.Common.{◌≡◌, ◌≢◌, ℕ, zero, suc, ◌+◌, ◌-◌, ◌*◌, ◌%◌, ◌^◌, ◌<◌, ◌≤◌, ap, add-one, true, false, List, length, set, slice_index, ◌==◌, refl, arith, inl, inr, ⊎_elim, ◌⊎◌, get_or-set_other, get_or-set_same}
+use Rattle.std.proofs.Common.{◌≡◌, ◌≢◌, ℕ, zero, suc, ◌+◌, ◌-◌, ◌*◌, ◌%◌, ◌^◌, ◌<◌, ◌≤◌, ap, add-one, true, false, List, length, set}
+use Rattle.std.proofs.Common.{slice_index, ◌==◌, refl, arith, inl, inr, ⊎_elim, ◌⊎◌, get_or-set_other, get_or-set_same}
 use Rattle.std.specs.Int.{bit_at}
 use Rattle.std.proofs.lemmas.Nat.{shr_high}
 use Rattle.std.proofs.Math.Nat.{pow-le-pow_right, two-pow-succ}

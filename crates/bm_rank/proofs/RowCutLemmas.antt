@@ -8,7 +8,8 @@ use Rattle.std.proofs.Math.Nat.{mod-lt, mod-eq_of_lt, zero-div, div-one, pow-le-
 use Rattle.bm_gf2.specs.Vector.{xor_sum}
 use Rattle.bm_gf2.specs.declared.matrix.Matrix.{Matrix}
 use Rattle.bm_gf2.specs.Matrix.{image, column, IsNonsingular}
-use Rattle.bm_gf2.proofs.VectorLemmas.{xor_sum-above, xor_sum-ext, xor_sum-shr, xor_sum-mod, xor_sum-xor, xor_sum-split, xor_sum-xor_sum, xor_sum-zero, xor_sum-bits, xor_sum-lt, eq_of_xor-zero, xor_same}
+use Rattle.bm_gf2.proofs.VectorLemmas.{xor_sum-above, xor_sum-ext, xor_sum-shr, xor_sum-mod, xor_sum-xor, xor_sum-split, xor_sum-xor_sum}
+use Rattle.bm_gf2.proofs.VectorLemmas.{xor_sum-zero, xor_sum-bits, xor_sum-lt, eq_of_xor-zero, xor_same}
 use Rattle.bm_rank.specs.RowSolution.{IsCovered, IsLeastOutside, IsLeastSplit, IsCut, middle_rows, top_rows}
 use Rattle.bm_gf2.specs.Kernel.{IsLeastKernel}
 use Rattle.bm_rank.specs.Inverse.{IsInverse}

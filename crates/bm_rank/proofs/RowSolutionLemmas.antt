@@ -1,5 +1,7 @@
 -- One set of rows from another.
-use Rattle.std.proofs.Common.{◌≡◌, ◌≢◌, ℕ, ◌+◌, ◌-◌, ◌*◌, ◌%◌, ◌^◌, ◌<◌, ◌≤◌, Bool, true, false, not, if◌then◌else◌, List, [], ◌∷◌, ◌++◌, length, length-append, set, get_or-set_same, get_or-set_other, slice_index, bit_xor, refl, sym, ap, ◌∙◌, subst, arith, add-one, inl, inr, ⊎_elim, ◌⊎◌}
+use Rattle.std.proofs.Common.{◌≡◌, ◌≢◌, ℕ, ◌+◌, ◌-◌, ◌*◌, ◌%◌, ◌^◌, ◌<◌, ◌≤◌, Bool, true, false, not, if◌then◌else◌, List, [], ◌∷◌, ◌++◌}
+use Rattle.std.proofs.Common.{length, length-append, set, get_or-set_same, get_or-set_other, slice_index, bit_xor, refl, sym, ap, ◌∙◌}
+use Rattle.std.proofs.Common.{subst, arith, add-one, inl, inr, ⊎_elim, ◌⊎◌}
 use Rattle.std.specs.Int.{bit_at}
 use Rattle.std.specs.Int.Bits.{xor_self, xor_zero_r}
 use Rattle.std.proofs.lemmas.Nat.{xor_lt, pow_below, pow_pos, one_shl}
@@ -7,7 +9,8 @@ use Rattle.std.proofs.Math.Nat.{pow-le-pow_right, two-pow-succ}
 use Rattle.std.proofs.lemmas.Nat.Bits.{bit_at-lt}
 use Rattle.std.proofs.lemmas.Bool.{cases_lt, false≢true}
 use Rattle.bm_gf2.specs.Vector.{xor_sum}
-use Rattle.bm_gf2.proofs.VectorLemmas.{xor_pow_above, xor_sum-xor, xor_sum-zero, xor_sum-pow, xor_sum-more, xor_sum-xor_sum, xor_sum-ext, xor_sum-lt, xor_sum_start, bit_cases, xor_same, eq_of_xor-zero, xor_cancel, xor_cancel_right}
+use Rattle.bm_gf2.proofs.VectorLemmas.{xor_pow_above, xor_sum-xor, xor_sum-zero, xor_sum-pow, xor_sum-more, xor_sum-xor_sum, xor_sum-ext}
+use Rattle.bm_gf2.proofs.VectorLemmas.{xor_sum-lt, xor_sum_start, bit_cases, xor_same, eq_of_xor-zero, xor_cancel, xor_cancel_right}
 use Rattle.bm_rank.specs.RowSolution.{IsLeastSplit}
 use Rattle.bm_rank.specs.Span.{in_span}
 use Rattle.bm_rank.specs.Span.{sum_of}

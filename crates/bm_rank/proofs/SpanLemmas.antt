@@ -1,5 +1,6 @@
 -- Laws of spans.
-use Rattle.std.proofs.Common.{◌≡◌, ℕ, suc, ◌+◌, ◌*◌, ◌/◌, ◌%◌, ◌^◌, ◌<◌, ◌≤◌, Bool, true, false, List, [], ◌∷◌, ◌++◌, length, length-take, take, get_or-take, slice_index, ◌||◌, bit_xor, refl, sym, ap, ◌∙◌, subst, arith, inl, inr, ⊎_elim, ◌⊎◌}
+use Rattle.std.proofs.Common.{◌≡◌, ℕ, suc, ◌+◌, ◌*◌, ◌/◌, ◌%◌, ◌^◌, ◌<◌, ◌≤◌, Bool, true, false, List, [], ◌∷◌, ◌++◌, length, length-take}
+use Rattle.std.proofs.Common.{take, get_or-take, slice_index, ◌||◌, bit_xor, refl, sym, ap, ◌∙◌, subst, arith, inl, inr, ⊎_elim, ◌⊎◌}
 use Rattle.std.specs.Int.{bit_at}
 use Rattle.std.specs.Int.Bits.{xor_assoc}
 use Rattle.std.proofs.lemmas.Nat.{xor_comm}
@@ -9,7 +10,8 @@ use Rattle.std.proofs.lemmas.List.{get_or_append_left}
 use Rattle.std.proofs.Math.Seq.{get_or-append_seam}
 use Rattle.std.proofs.Math.Numerals.{one-add}
 use Rattle.bm_gf2.specs.Vector.{xor_sum}
-use Rattle.bm_gf2.proofs.VectorLemmas.{xor_sum-split, xor_sum-xor, xor_sum-more, xor_sum_start, xor_sum-pow, xor_sum-ext, bit_cases, xor_same, xor_cancel_right, zero_times}
+use Rattle.bm_gf2.proofs.VectorLemmas.{xor_sum-split, xor_sum-xor, xor_sum-more, xor_sum_start, xor_sum-pow, xor_sum-ext, bit_cases}
+use Rattle.bm_gf2.proofs.VectorLemmas.{xor_same, xor_cancel_right, zero_times}
 use Rattle.bm_rank.specs.Span.{in_span, sum_of}
 
 -- the vectors after the first

@@ -1,5 +1,7 @@
 -- The loop that keeps independent vectors.
-use Rattle.std.proofs.Common.{◌≡◌, ◌≢◌, ℕ, ◌+◌, ◌^◌, ◌<◌, ◌≤◌, Bool, true, false, not, if◌then◌else◌, List, [], ◌∷◌, ◌++◌, length, length-set, take, set, get_or-set_other, get_or-set_same, slice_index, refl, sym, ap, ◌∙◌, subst, arith, add-one, ⊎_elim}
+use Rattle.std.proofs.Common.{◌≡◌, ◌≢◌, ℕ, ◌+◌, ◌^◌, ◌<◌, ◌≤◌, Bool, true, false, not, if◌then◌else◌, List, [], ◌∷◌, ◌++◌, length}
+use Rattle.std.proofs.Common.{length-set, take, set, get_or-set_other, get_or-set_same, slice_index, refl, sym, ap, ◌∙◌, subst, arith}
+use Rattle.std.proofs.Common.{add-one, ⊎_elim}
 use Rattle.std.proofs.Math.Seq.{take-suc}
 use Rattle.std.proofs.lemmas.Grind.{take-set_at}
 use Rattle.std.proofs.lemmas.Bool.{cases_eq}
@@ -44,11 +46,17 @@ found_none vectors ones long = record {
   spans = λ v. refl;
   bases = λ k l.
       let e : k ≡ 0 = omega arith in
-      rw e (record { number = 0; few = omega arith; is = first_basis ones [] 0 (omega arith) (independent_none (slice_index ones)) (λ v. refl) });
+      rw e (record {
+        number = 0;
+        few = omega arith;
+        is = first_basis ones [] 0 (omega arith) (independent_none (slice_index ones))
+            (λ v. refl);
+      });
 }
 
 -- one vector more, which is a sum of those before it
-pub found_known : (vectors : List ℕ) (i next : ℕ) (kept kept2 ones : List ℕ) (b : Bool) → IsFound vectors i next kept ones → i < length vectors
+pub found_known : (vectors : List ℕ) (i next : ℕ) (kept kept2 ones : List ℕ) (b : Bool) → IsFound vectors i next kept ones
+    → i < length vectors
     → b ≡ false → b ≡ not (in_span kept (slice_index vectors i))
     → kept2 ≡ (if b then kept ++ (slice_index vectors i) ∷ [] else kept)
     → next ≤ 52 → IsFound vectors (i + 1) next kept2 ones

@@ -1,5 +1,6 @@
 -- Maps that keep the low bits of a number.
-use Rattle.std.proofs.Common.{◌≡◌, ◌≢◌, ℕ, ◌+◌, ◌-◌, ◌*◌, ◌/◌, ◌%◌, ◌^◌, ◌<◌, ◌≤◌, List, length, set, length-set, get_or-set_other, get_or-set_same, slice_index, refl, sym, ap, ◌∙◌, subst, arith, ⊎_elim}
+use Rattle.std.proofs.Common.{◌≡◌, ◌≢◌, ℕ, ◌+◌, ◌-◌, ◌*◌, ◌/◌, ◌%◌, ◌^◌, ◌<◌, ◌≤◌, List, length, set, length-set, get_or-set_other}
+use Rattle.std.proofs.Common.{get_or-set_same, slice_index, refl, sym, ap, ◌∙◌, subst, arith, ⊎_elim}
 use Rattle.std.proofs.lemmas.Nat.{shl_below, shr_below, shl-shr, one_shl, pow_below, pow-add, xor_comm}
 use Rattle.std.proofs.lemmas.Bool.{cases_lt, cases_eq, le-ltb, lt-leb}
 use Rattle.bm_base.specs.ShapeRules.{broken_rule}
@@ -9,7 +10,8 @@ use Rattle.std.proofs.Math.Pow.{pow_mono}
 use Rattle.bm_gf2.specs.declared.matrix.Matrix.{Matrix}
 use Rattle.bm_gf2.specs.Matrix.{column, image, IsNonsingular}
 use Rattle.bm_gf2.specs.Vector.{xor_sum}
-use Rattle.bm_gf2.proofs.VectorLemmas.{set_below, set_rest, xor_same, xor_sum-zero, xor_sum-ext, xor_sum-lt, xor_sum-mod, xor_sum-shr, xor_sum-split, xor_sum-units}
+use Rattle.bm_gf2.proofs.VectorLemmas.{set_below, set_rest, xor_same, xor_sum-zero, xor_sum-ext, xor_sum-lt, xor_sum-mod, xor_sum-shr}
+use Rattle.bm_gf2.proofs.VectorLemmas.{xor_sum-split, xor_sum-units}
 use Rattle.bm_bufs.specs.Runs.{KeepsRuns}
 use Rattle.bm_bufs.specs.Tiles.{HasRunBasis}
 use Rattle.bm_split.specs.RunMap.{IsRunMap}
@@ -143,7 +145,8 @@ run_map_same a low v tops inside is l =
     let up : 2 ^ low < 2 ^ a.n = pow_below low a.n inside in
     let none : v / 2 ^ low ≡ 0 = div-eq_of_lt l in
     of_parts (image a v) v low
-    (run_map_high a low v tops (omega arith) is ∙ ap (xor_sum (slice_index tops) (a.n - low)) none ∙ xor_sum-zero (slice_index tops) (a.n - low)
+    (run_map_high a low v tops (omega arith) is ∙ ap (xor_sum (slice_index tops) (a.n - low)) none
+    ∙ xor_sum-zero (slice_index tops) (a.n - low)
     ∙ sym none)
     (run_map_low a low v tops inside is (omega arith))
 
@@ -155,7 +158,8 @@ run_map_shifted a low y tops inside is l =
     let e : (a.n - low) + low ≡ a.n = omega arith in
     let up : y * 2 ^ low < 2 ^ a.n = subst (λ k. y * 2 ^ low < 2 ^ k) e (shl_below y (a.n - low) low l) in
     of_parts (image a (y * 2 ^ low)) (sum * 2 ^ low) low
-    (run_map_high a low (y * 2 ^ low) tops (omega arith) is ∙ ap (xor_sum (slice_index tops) (a.n - low)) (shl-shr y low) ∙ sym (shl-shr sum low))
+    (run_map_high a low (y * 2 ^ low) tops (omega arith) is ∙ ap (xor_sum (slice_index tops) (a.n - low)) (shl-shr y low)
+    ∙ sym (shl-shr sum low))
     (run_map_low a low (y * 2 ^ low) tops inside is up ∙ mul-mod_left y (2 ^ low) ∙ sym (mul-mod_left sum (2 ^ low)))
 
 -- independent columns make it nonsingular

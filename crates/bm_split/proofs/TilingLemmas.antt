@@ -1,5 +1,6 @@
 -- What keeps a record within its tile.
-use Rattle.std.proofs.Common.{◌≡◌, ℕ, zero, suc, ◌+◌, ◌-◌, ◌*◌, ◌/◌, ◌%◌, ◌^◌, ◌<◌, ◌≤◌, List, slice_index, bit_xor, sym, ap, ◌∙◌, subst, arith, ⊎_elim}
+use Rattle.std.proofs.Common.{◌≡◌, ℕ, zero, suc, ◌+◌, ◌-◌, ◌*◌, ◌/◌, ◌%◌, ◌^◌, ◌<◌, ◌≤◌, List, slice_index, bit_xor, sym, ap, ◌∙◌, subst}
+use Rattle.std.proofs.Common.{arith, ⊎_elim}
 use Rattle.std.specs.Int.{bit_at}
 use Rattle.std.specs.Int.Bits.{xor_assoc, xor_shr, xor_shifted, xor_zero_r}
 use Rattle.std.proofs.Math.Nat.{div-eq_of_lt, div-add-mod', mod-lt}
@@ -75,13 +76,15 @@ near_in_tile a basis low tile v le same images near =
     (record { number = near.lows; below = up_to low tile near.lows le near.lows_in; place = same near.lows near.lows_in }))
 
 -- where each place moves within the tile, the map of the numbers keeps tiles
-pub keeps_tiles_of : (home basis numbers middle back : Matrix) (plus back_plus tile : ℕ) → home.n ≡ basis.n → back.n ≡ basis.n → tile ≤ basis.n
+pub keeps_tiles_of : (home basis numbers middle back : Matrix) (plus back_plus tile : ℕ) → home.n ≡ basis.n → back.n ≡ basis.n
+    → tile ≤ basis.n
     → IsInverse basis numbers
     → ((x : ℕ) → image middle x ≡ image home (image basis x)) → ((x : ℕ) → image back x ≡ image numbers (image middle x))
     → back_plus ≡ image numbers (image home plus)
     → ((y : ℕ) → y < 2 ^ basis.n → IsInTile basis tile (bit_xor y (image home y))) → IsInTile basis tile (image home plus)
     → KeepsTiles back back_plus tile
-keeps_tiles_of home basis numbers middle back plus back_plus tile home_size back_size inside of_basis middle_is back_is plus_is moves start =
+keeps_tiles_of home basis numbers middle back plus back_plus tile home_size back_size inside of_basis middle_is back_is plus_is moves start
+    =
     let named : (s : ℕ) → s < 2 ^ tile → image numbers (image basis s) ≡ s = λ s l. of_basis.left s (up_to tile basis.n s inside l) in
     record {
       start = subst (λ c. c < 2 ^ tile)
@@ -99,7 +102,8 @@ keeps_tiles_of home basis numbers middle back plus back_plus tile home_size back
           let is : column back j ≡ bit_xor unit s =
           sym (xor_sum-pow (column back) back.n j l) ∙ back_is unit ∙ ap (image numbers) (middle_is unit ∙ goes)
           ∙ of_basis.left (bit_xor unit s) sum_in in
-          ap (λ c. c / 2 ^ tile) is ∙ xor_shr unit s tile ∙ ap (bit_xor (unit / 2 ^ tile)) (div-eq_of_lt m.below) ∙ xor_zero_r (unit / 2 ^ tile);
+          ap (λ c. c / 2 ^ tile) is ∙ xor_shr unit s tile ∙ ap (bit_xor (unit / 2 ^ tile)) (div-eq_of_lt m.below)
+          ∙ xor_zero_r (unit / 2 ^ tile);
     }
 
 -- ---- what the first step leaves
@@ -151,7 +155,8 @@ outer_near a t changed outer low tops inside changed_size outer_size trailer cha
     let sum : image a (column t j) ≡ bit_xor u v =
     ap (image a) d.is ∙ xor_sum-xor (column a) a.n d.added (2 ^ j) ∙ ap (bit_xor u) (xor_sum-pow (column a) a.n j l) in
     let top : slice_index tops i ≡ bit_xor (u / 2 ^ low) (v / 2 ^ low) =
-    tops_is i (omega arith) ∙ ap (λ k. column changed k / 2 ^ low) e ∙ ap (λ c. c / 2 ^ low) (changed_is j (omega arith) ∙ sum) ∙ xor_shr u v low in
+    tops_is i (omega arith) ∙ ap (λ k. column changed k / 2 ^ low) e ∙ ap (λ c. c / 2 ^ low) (changed_is j (omega arith) ∙ sum)
+    ∙ xor_shr u v low in
     let here : column outer j ≡ bit_xor g h =
     ap (column outer) (sym e) ∙ is.others i (omega arith) ∙ ap (λ c. c * 2 ^ low) top ∙ xor_shl (u / 2 ^ low) (v / 2 ^ low) low in
     record {
@@ -177,7 +182,8 @@ outer_nonsingular a t changed outer low tops inside changed_size outer_size trai
     ∙ ap (λ k. xor_sum (slice_index tops) k y) (sym e) ∙ z))
 
 -- the constant of the first step differs from the placing's in low bits
-pub constant_near : (plus n low : ℕ) → n ≤ 52 → low ≤ n → plus < 2 ^ n → bit_xor plus (plus / 2 ^ low * 2 ^ low % 18446744073709551616) < 2 ^ low
+pub constant_near : (plus n low : ℕ) → n ≤ 52 → low ≤ n → plus < 2 ^ n
+    → bit_xor plus (plus / 2 ^ low * 2 ^ low % 18446744073709551616) < 2 ^ low
 constant_near plus n low few l h =
     let b = put_back (plus / 2 ^ low) n low few l (cut_above n low plus l h) in
     subst (λ c. c < 2 ^ low) (sym (ap (bit_xor plus) b.0 ∙ less_high plus low)) (mod-lt plus (pow_pos low))

@@ -1,5 +1,6 @@
 -- One row more was read or written.
-use Rattle.std.proofs.Common.{◌≡◌, ◌≢◌, inl, inr, ℕ, ◌+◌, ◌*◌, ◌<◌, ◌≤◌, Bool, IsTrue, List, length, take, drop, Option, Some, None, Result, IsOk, sym, ◌∙◌, ap, arith, get_or-take, length-take}
+use Rattle.std.proofs.Common.{◌≡◌, ◌≢◌, inl, inr, ℕ, ◌+◌, ◌*◌, ◌<◌, ◌≤◌, Bool, IsTrue, List, length, take, drop, Option, Some, None, Result}
+use Rattle.std.proofs.Common.{IsOk, sym, ◌∙◌, ap, arith, get_or-take, length-take}
 use Rattle.std.proofs.Math.Nat.{mul-le-mul_right}
 use Rattle.std.proofs.lemmas.Nat.{mul-add-lt}
 use Rattle.std.proofs.lemmas.Bool.{cases_lt}

@@ -1,7 +1,8 @@
 -- Which blocks hold which records.
 use Rattle.std.proofs.Common.{◌≡◌, ◌≢◌, ℕ, ◌+◌, ◌-◌, ◌*◌, ◌/◌, ◌%◌, ◌^◌, ◌<◌, List, refl, sym, ◌∙◌, ap, arith}
 use Rattle.std.proofs.Math.Pow.{pow_mono}
-use Rattle.std.proofs.lemmas.Nat.{div_below, pow_pos, mul-add-lt, div-mul-add, mod-mul-add, div-add-mod', same_from_place, shr-shr, field_of}
+use Rattle.std.proofs.lemmas.Nat.{div_below, pow_pos, mul-add-lt, div-mul-add, mod-mul-add, div-add-mod', same_from_place, shr-shr}
+use Rattle.std.proofs.lemmas.Nat.{field_of}
 use Rattle.std.specs.Fork.{slice_chunk}
 use Rattle.bm_base.specs.declared.shape.Shape.{Shape}
 use Rattle.bm_base.specs.declared.area.Area.{Area}

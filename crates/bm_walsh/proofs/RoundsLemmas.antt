@@ -1,5 +1,6 @@
 -- Rounds in order: they do the transform, and have no more passes than its limit.
-use Rattle.std.proofs.Common.{ℕ, zero, suc, ◌≡◌, ◌+◌, ◌-◌, ◌*◌, ◌%◌, ◌^◌, ◌<◌, ◌≤◌, List, [], ◌∷◌, ◌++◌, length, length-append, refl, sym, ap, ◌∙◌, subst, arith, ⊎_elim}
+use Rattle.std.proofs.Common.{ℕ, zero, suc, ◌≡◌, ◌+◌, ◌-◌, ◌*◌, ◌%◌, ◌^◌, ◌<◌, ◌≤◌, List, [], ◌∷◌, ◌++◌, length, length-append, refl, sym}
+use Rattle.std.proofs.Common.{ap, ◌∙◌, subst, arith, ⊎_elim}
 use Rattle.std.specs.Int.{div_ceil}
 use Rattle.std.proofs.Math.Nat.{mul-le-mul_right, add-mul}
 use Rattle.std.proofs.lemmas.Bool.{cases_lt}
@@ -171,7 +172,8 @@ pub whole_room : (s : Shape) (k : ℕ) (forms : List PassForm) → AreWholeRound
 whole_room s k forms w l =
     let h : length forms ≤ k * rotation_limit s s.m = whole_few s k forms w in
     let e : (k + 1) * rotation_limit s s.m ≡ k * rotation_limit s s.m + 1 * rotation_limit s s.m = add-mul k 1 (rotation_limit s s.m) in
-    let m : (k + 1) * rotation_limit s s.m ≤ (rounds_of s - 1) * rotation_limit s s.m = mul-le-mul_right (rotation_limit s s.m) (omega arith) in
+    let m : (k + 1) * rotation_limit s s.m ≤ (rounds_of s - 1) * rotation_limit s s.m = mul-le-mul_right (rotation_limit s s.m)
+    (omega arith) in
     let f : (rounds_of s - 1) * rotation_limit s s.m + rotation_limit s (last_bits s) ≤ 256 = all_fit s in
     omega arith
 

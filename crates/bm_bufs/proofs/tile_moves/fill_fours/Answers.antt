@@ -1,4 +1,5 @@
-use Rattle.std.proofs.Common.{◌≡◌, ℕ, ◌+◌, ◌-◌, ◌*◌, ◌%◌, ◌^◌, ◌<◌, ◌≤◌, inl, inr, ⊎_elim, w64, bit_xor, slice_index, length, refl, sym, ap, ◌∙◌, subst, arith}
+use Rattle.std.proofs.Common.{◌≡◌, ℕ, ◌+◌, ◌-◌, ◌*◌, ◌%◌, ◌^◌, ◌<◌, ◌≤◌, inl, inr, ⊎_elim, w64, bit_xor, slice_index, length, refl, sym, ap}
+use Rattle.std.proofs.Common.{◌∙◌, subst, arith}
 use Rattle.std.specs.Int.{trailing_ones}
 use Rattle.std.specs.Int.Bits.{xor_zero_r}
 use Rattle.std.proofs.lemmas.Nat.{xor_lt, one_shl}
@@ -13,7 +14,8 @@ use Rattle.bm_bufs.proofs.TileLemmas.{low_below, low_column, four_turn, four_mor
 use Rattle.bm_bufs.proofs.tile_moves.fill_fours.Goals as goal
 
 -- the number that stands before four records
-from_below : (m : TileMap) (first j from : ℕ) → first < 2 ^ m.tile → from ≡ bit_xor first (xor_sum (column m.back) m.low j) → from < 2 ^ m.tile
+from_below : (m : TileMap) (first j from : ℕ) → first < 2 ^ m.tile → from ≡ bit_xor first (xor_sum (column m.back) m.low j)
+    → from < 2 ^ m.tile
 from_below m first j from short is = subst (λ x. x < 2 ^ m.tile) (sym is)
     (xor_lt m.tile first (xor_sum (column m.back) m.low j) short
     (low_below m.back m.back_plus m.tile m.low j m.tiles m.low_in (omega (arith, m.tile_in, m.back_size))))
@@ -65,7 +67,8 @@ copy_four-requires-clause-load g c =
     let turn = (four_turn m.low c.loop-j.j c.requires.low (omega (arith, m.low_in, m.tile_in, m.placing.a.few)) c.loop-j-test.true).0 in
     let fits : (c.args.at + 4 * c.loop-j.j + 4) * g.row.W ≤ (c.args.at + 2 ^ m.low) * g.row.W =
     mul-le-mul_right g.row.W (let e : c.args.at + 4 * c.loop-j.j + 4 ≤ c.args.at + 2 ^ m.low = omega arith in e) in
-    let done : (c.args.at + 4 * c.loop-j.j + 4) * g.row.W ≤ length c.loop-j.load = omega (arith, fits, c.loop-j.invariant.size, c.requires.load) in
+    let done : (c.args.at + 4 * c.loop-j.j + 4) * g.row.W ≤ length c.loop-j.load = omega
+    (arith, fits, c.loop-j.invariant.size, c.requires.load) in
     done
 
 pub copy_four-requires-clause-a : goal.copy_four-requires-clause-a

@@ -1,4 +1,5 @@
-use Rattle.std.proofs.Common.{◌≡◌, ◌≢◌, ◌⊎◌, ℕ, ◌+◌, ◌-◌, ◌*◌, ◌/◌, ◌%◌, ◌^◌, ◌<◌, ◌≤◌, inl, inr, ⊎_elim, w64, bit_and, bit_xor, slice_index, refl, sym, ap, ◌∙◌, subst, arith}
+use Rattle.std.proofs.Common.{◌≡◌, ◌≢◌, ◌⊎◌, ℕ, ◌+◌, ◌-◌, ◌*◌, ◌/◌, ◌%◌, ◌^◌, ◌<◌, ◌≤◌, inl, inr, ⊎_elim, w64, bit_and, bit_xor}
+use Rattle.std.proofs.Common.{slice_index, refl, sym, ap, ◌∙◌, subst, arith}
 use Rattle.std.specs.Int.{trailing_ones}
 use Rattle.std.proofs.lemmas.Nat.{one_shl, and_mask}
 use Rattle.std.proofs.lemmas.Bool.{cases_eq}
@@ -104,11 +105,13 @@ loop-q-preserved c =
     let old = c.loop-q.load in
     let new = c.fill_run.new.load in
     let turn = tile_turn m c.args.o q c.requires.o c.loop-q-test.true in
-    let ones : c.trailing_ones-ones.result ≡ trailing_ones w64 r = c.trailing_ones-ones.ensures ∙ ap (λ x. trailing_ones w64 (x + q)) inv.start in
+    let ones : c.trailing_ones-ones.result ≡ trailing_ones w64 r = c.trailing_ones-ones.ensures
+    ∙ ap (λ x. trailing_ones w64 (x + q)) inv.start in
     let next : r + 1 ≡ start + (q + 1) = omega arith in
     let fills : FillsRun m width at first row old new =
     subst (λ x. FillsRun m width at x row old new) (masked m c.loop-q.from r inv.from)
-    (subst (λ x. FillsRun m width x (bit_and c.loop-q.from (1 * 2 ^ m.tile % 18446744073709551616 - 1)) row old new) inv.at c.fill_run.ensures) in
+    (subst (λ x. FillsRun m width x (bit_and c.loop-q.from (1 * 2 ^ m.tile % 18446744073709551616 - 1)) row old new) inv.at
+    c.fill_run.ensures) in
     record {
       low = refl;
       start = inv.start;
@@ -123,13 +126,15 @@ loop-q-preserved c =
       size = c.fill_run.ensures.size ∙ inv.size;
       moved = λ z short reached below. ⊎_elim
           (λ (p : z / 2 ^ m.low ≡ r). filled_run m width r row old new turn.1 fills z p)
-          (λ (p : z / 2 ^ m.low ≢ r). filled_other m width r first row old new turn.1 fills z short p ∙ inv.moved z short reached (omega arith))
+          (λ (p : z / 2 ^ m.low ≢ r). filled_other m width r first row old new turn.1 fills z short p
+          ∙ inv.moved z short reached (omega arith))
           (cases_eq (z / 2 ^ m.low) r);
       others = λ z short away.
           filled_other m width r first row old new turn.1 fills z short
           (⊎_elim (λ (p : z / 2 ^ m.low < start). λ (e : z / 2 ^ m.low ≡ r). absurd (omega arith))
           (λ (p : start + (q + 1) ≤ z / 2 ^ m.low). λ (e : z / 2 ^ m.low ≡ r). absurd (omega arith)) away)
-          ∙ inv.others z short (⊎_elim (λ (p : z / 2 ^ m.low < start). inl p) (λ (p : start + (q + 1) ≤ z / 2 ^ m.low). inr (omega arith)) away);
+          ∙ inv.others z short (⊎_elim (λ (p : z / 2 ^ m.low < start). inl p) (λ (p : start + (q + 1) ≤ z / 2 ^ m.low). inr (omega arith))
+          away);
     }
 
 pub returns : goal.returns
@@ -146,6 +151,7 @@ returns c =
       moved = λ z short is. let inside = in_tile z m.tile m.low c.args.o m.low_in is in
           inv.moved z short inside.0 (subst (λ x. z / 2 ^ m.low < start + x) (sym all) inside.1);
       others = λ z short other. inv.others z short
-          (subst (λ x. (z / 2 ^ m.low < start) ⊎ (start + x ≤ z / 2 ^ m.low)) (sym all) (out_of_tile z m.tile m.low c.args.o m.low_in other));
+          (subst (λ x. (z / 2 ^ m.low < start) ⊎ (start + x ≤ z / 2 ^ m.low)) (sym all)
+          (out_of_tile z m.tile m.low c.args.o m.low_in other));
       size = inv.size;
     }

@@ -1,4 +1,5 @@
-use Rattle.std.proofs.Common.{◌≡◌, ◌≢◌, ℕ, ◌+◌, ◌-◌, ◌*◌, ◌/◌, ◌%◌, ◌^◌, ◌<◌, ◌≤◌, ⊎_elim, w64, bit_xor, slice_index, length, refl, sym, ap, ◌∙◌, subst, arith}
+use Rattle.std.proofs.Common.{◌≡◌, ◌≢◌, ℕ, ◌+◌, ◌-◌, ◌*◌, ◌/◌, ◌%◌, ◌^◌, ◌<◌, ◌≤◌, ⊎_elim, w64, bit_xor, slice_index, length, refl, sym, ap}
+use Rattle.std.proofs.Common.{◌∙◌, subst, arith}
 use Rattle.std.specs.Fork.{slice_chunk}
 use Rattle.std.specs.Int.{trailing_ones}
 use Rattle.std.proofs.lemmas.Nat.{one_shl}
@@ -20,7 +21,8 @@ overflow_mul-run c =
     let m = c.args.steps.now.map in
     let size : 1 * 2 ^ m.low % 18446744073709551616 * c.from.result ≡ 2 ^ m.low * m.placing.width =
     ap (λ x. x * c.from.result) (run_size m) ∙ ap (λ x. 2 ^ m.low * x) c.from.ensures in
-    let less : 2 ^ m.low * m.placing.width ≤ 2 ^ m.tile * m.placing.width = mul-le-mul_right m.placing.width (pow_mono {i = m.low} {j = m.tile} m.low_in) in
+    let less : 2 ^ m.low * m.placing.width ≤ 2 ^ m.tile * m.placing.width = mul-le-mul_right m.placing.width
+    (pow_mono {i = m.low} {j = m.tile} m.low_in) in
     omega (arith, size, less, c.requires.row)
 
 pub apply-from-requires : goal.apply-from-requires
@@ -59,7 +61,8 @@ copy_record-requires-clause-from c =
     let turn = tile_turn m c.args.o c.loop-q.q c.requires.o c.loop-q-test.true in
     let r = c.args.o * 2 ^ (m.tile - m.low) + c.loop-q.q in
     let fits = run_of_load m r m.placing.width turn.1 in
-    let done : (image m.basis (r * 2 ^ m.low) / 2 ^ m.low + 1) * (2 ^ m.low * m.placing.width) ≤ length c.args.load.now = omega (arith, fits, c.requires.load) in
+    let done : (image m.basis (r * 2 ^ m.low) / 2 ^ m.low + 1) * (2 ^ m.low * m.placing.width) ≤ length c.args.load.now = omega
+    (arith, fits, c.requires.load) in
     subst (λ x. (c.loop-q.from / 2 ^ m.low + 1) * x ≤ length c.args.load.now) (sym inv.run)
     (subst (λ x. (x / 2 ^ m.low + 1) * (2 ^ m.low * m.placing.width) ≤ length c.args.load.now) (sym inv.from) done)
 
@@ -75,7 +78,8 @@ bounds-steps-trailing_ones c =
     let m = c.args.steps.now.map in
     let q = c.loop-q.q in
     let r = c.args.o * 2 ^ (m.tile - m.low) + q in
-    let ones : c.trailing_ones.result ≡ trailing_ones w64 r = c.trailing_ones.ensures ∙ ap (λ x. trailing_ones w64 (x + q)) c.loop-q.invariant.start in
+    let ones : c.trailing_ones.result ≡ trailing_ones w64 r = c.trailing_ones.ensures
+    ∙ ap (λ x. trailing_ones w64 (x + q)) c.loop-q.invariant.start in
     subst (λ x. x < 53) (sym ones) (has_entry r (tile_turn m c.args.o q c.requires.o c.loop-q-test.true).2)
 
 pub loop-q-preserved : goal.loop-q-preserved
@@ -105,7 +109,8 @@ loop-q-preserved c =
           ∙ ap (λ x. image m.basis (x * 2 ^ m.low)) (let e : r + 1 ≡ start + (q + 1) = omega arith in e);
       size = c.copy_record.ensures.size ∙ inv.size;
       moved = λ k below. ⊎_elim
-          (λ (p : k ≡ q). subst (λ x. slice_chunk new size x ≡ slice_chunk c.args.load.now size (image m.basis ((start + x) * 2 ^ m.low) / 2 ^ m.low))
+          (λ (p : k ≡ q). subst (λ x. slice_chunk new size x ≡ slice_chunk c.args.load.now size
+          (image m.basis ((start + x) * 2 ^ m.low) / 2 ^ m.low))
           (sym p) (copied ∙ ap (λ x. slice_chunk c.args.load.now size (x / 2 ^ m.low)) inv.from))
           (λ (p : k ≢ q). others k p ∙ inv.moved k (omega arith))
           (cases_eq k q);
@@ -118,6 +123,7 @@ returns c =
     one_shl (m.tile - m.low) 64 (omega (arith, m.tile_in, m.placing.a.few)) in
     let test = c.loop-q-test.false in
     record {
-      moved = gathered m m.placing.width c.args.o c.args.load.now c.loop-q.row c.requires.o (λ k below. c.loop-q.invariant.moved k (omega arith));
+      moved = gathered m m.placing.width c.args.o c.args.load.now c.loop-q.row c.requires.o
+          (λ k below. c.loop-q.invariant.moved k (omega arith));
       size = c.loop-q.invariant.size;
     }

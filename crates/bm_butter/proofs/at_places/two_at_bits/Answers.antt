@@ -34,7 +34,8 @@ returns-clause-records c =
     let count : 1 * 2 ^ (a.n - 1 - corners.high) % 2 ^ 64 * 2 ^ (corners.high - 1) ≡ 2 ^ (a.n - 1 - max h k) * 2 ^ (max h k - 1) =
     ap (λ n. n * 2 ^ (corners.high - 1)) (one_shl (a.n - 1 - corners.high) 64 (omega (arith, a.few)))
     ∙ ap (λ n. 2 ^ (a.n - 1 - n) * 2 ^ (n - 1)) is_high in
-    SameRecords-lone a c.args.plus c.args.i h k inner.sum inner.difference outer.sum outer.difference old new c.requires.plus c.requires.bits
+    SameRecords-lone a c.args.plus c.args.i h k inner.sum inner.difference outer.sum outer.difference old new c.requires.plus
+    c.requires.bits
     c.requires.inner c.requires.outer halves halves_above
     (GroupsDone-as corners.low corners.high corners.first corners.second corners.third corners.fourth _
     (min h k) (max h k) (inner.sum + outer.sum) (inner.difference + outer.sum) (inner.sum + outer.difference)

@@ -23,7 +23,8 @@ returns-clause-records c =
     let nothing_above : bit_at 0 (i + 1) ≡ 0 = bit_at_above 0 0 (i + 1) (omega arith) (omega arith) in
     let inner = c.of.ensures.clear nothing in
     let outer = c.of-2.ensures.clear nothing_above in
-    let reach : size / 8 ≤ m * 2 ^ (i + 2) = blocks_reach (size / 8) (2 ^ (i + 2)) m (whole_count size (i + 2) c.requires.whole) (omega arith) in
+    let reach : size / 8 ≤ m * 2 ^ (i + 2) = blocks_reach (size / 8) (2 ^ (i + 2)) m (whole_count size (i + 2) c.requires.whole)
+    (omega arith) in
     let same : 2 ^ (i + 2) ≡ 2 ^ (i + 1 + 1) = ap (λ k. 2 ^ k) (let e : i + 2 ≡ i + 1 + 1 = omega arith in e) in
     let is_high : corners.high ≡ i + 1 = omega (arith, c.of-corners.ensures.high, c.of.ensures.bit, c.of-2.ensures.bit) in
     SameRecords-order i (size / 8) m old new (omega (arith, ap (λ k. m * k) same))

@@ -29,7 +29,8 @@ loop-run-preserved c =
       end = inv.end;
       done = GroupsDone-join place ((run + 1) * 2 ^ k.low) 0 (run * 2 ^ k.low) ((run + 1) * 2 ^ k.low) c.args.buf.now c.loop-run.buf
           c.transform_run.new.buf
-          (corners_told ((run + 1) * 2 ^ k.low) k.low k.high k.first k.second k.third k.fourth k.order k.corners) (omega arith) (omega arith)
+          (corners_told ((run + 1) * 2 ^ k.low) k.low k.high k.first k.second k.third k.fourth k.order k.corners) (omega arith)
+          (omega arith)
           (omega arith) inv.done c.transform_run.ensures.done;
     }
 

@@ -9,56 +9,64 @@ use Rattle.bm_butter.proofs.on_two_bits.transform_run.Goals as goal
 pub overflow_add-start : goal.overflow_add-start
 overflow_add-start c =
     let k = c.args.corners.now in
-    let bounds = run_bounds k.low k.high k.first k.second k.third k.fourth c.args.run c.run_start-start.result c.args.blocks k.order k.corners
+    let bounds = run_bounds k.low k.high k.first k.second k.third k.fourth c.args.run c.run_start-start.result c.args.blocks k.order
+    k.corners
     c.run_start-start.ensures c.requires.inside in
     omega (arith, bounds.0, c.requires.fits)
 
 pub overflow_add-start-2 : goal.overflow_add-start-2
 overflow_add-start-2 c =
     let k = c.args.corners.now in
-    let bounds = run_bounds k.low k.high k.first k.second k.third k.fourth c.args.run c.run_start-start.result c.args.blocks k.order k.corners
+    let bounds = run_bounds k.low k.high k.first k.second k.third k.fourth c.args.run c.run_start-start.result c.args.blocks k.order
+    k.corners
     c.run_start-start.ensures c.requires.inside in
     omega (arith, bounds.1, c.requires.fits)
 
 pub overflow_add-start-3 : goal.overflow_add-start-3
 overflow_add-start-3 c =
     let k = c.args.corners.now in
-    let bounds = run_bounds k.low k.high k.first k.second k.third k.fourth c.args.run c.run_start-start.result c.args.blocks k.order k.corners
+    let bounds = run_bounds k.low k.high k.first k.second k.third k.fourth c.args.run c.run_start-start.result c.args.blocks k.order
+    k.corners
     c.run_start-start.ensures c.requires.inside in
     omega (arith, bounds.2, c.requires.fits)
 
 pub overflow_add-start-4 : goal.overflow_add-start-4
 overflow_add-start-4 c =
     let k = c.args.corners.now in
-    let bounds = run_bounds k.low k.high k.first k.second k.third k.fourth c.args.run c.run_start-start.result c.args.blocks k.order k.corners
+    let bounds = run_bounds k.low k.high k.first k.second k.third k.fourth c.args.run c.run_start-start.result c.args.blocks k.order
+    k.corners
     c.run_start-start.ensures c.requires.inside in
     omega (arith, bounds.3, c.requires.fits)
 
 pub make_quads-requires-clause-p : goal.make_quads-requires-clause-p
 make_quads-requires-clause-p c =
     let k = c.args.corners.now in
-    let bounds = run_bounds k.low k.high k.first k.second k.third k.fourth c.args.run c.run_start-start.result c.args.blocks k.order k.corners
+    let bounds = run_bounds k.low k.high k.first k.second k.third k.fourth c.args.run c.run_start-start.result c.args.blocks k.order
+    k.corners
     c.run_start-start.ensures c.requires.inside in
     omega (arith, bounds.0, c.requires.fits, one_shl k.low 64 (omega (arith, k.order, k.few)))
 
 pub make_quads-requires-clause-q : goal.make_quads-requires-clause-q
 make_quads-requires-clause-q c =
     let k = c.args.corners.now in
-    let bounds = run_bounds k.low k.high k.first k.second k.third k.fourth c.args.run c.run_start-start.result c.args.blocks k.order k.corners
+    let bounds = run_bounds k.low k.high k.first k.second k.third k.fourth c.args.run c.run_start-start.result c.args.blocks k.order
+    k.corners
     c.run_start-start.ensures c.requires.inside in
     omega (arith, bounds.1, c.requires.fits, one_shl k.low 64 (omega (arith, k.order, k.few)))
 
 pub make_quads-requires-clause-r : goal.make_quads-requires-clause-r
 make_quads-requires-clause-r c =
     let k = c.args.corners.now in
-    let bounds = run_bounds k.low k.high k.first k.second k.third k.fourth c.args.run c.run_start-start.result c.args.blocks k.order k.corners
+    let bounds = run_bounds k.low k.high k.first k.second k.third k.fourth c.args.run c.run_start-start.result c.args.blocks k.order
+    k.corners
     c.run_start-start.ensures c.requires.inside in
     omega (arith, bounds.2, c.requires.fits, one_shl k.low 64 (omega (arith, k.order, k.few)))
 
 pub make_quads-requires-clause-s : goal.make_quads-requires-clause-s
 make_quads-requires-clause-s c =
     let k = c.args.corners.now in
-    let bounds = run_bounds k.low k.high k.first k.second k.third k.fourth c.args.run c.run_start-start.result c.args.blocks k.order k.corners
+    let bounds = run_bounds k.low k.high k.first k.second k.third k.fourth c.args.run c.run_start-start.result c.args.blocks k.order
+    k.corners
     c.run_start-start.ensures c.requires.inside in
     omega (arith, bounds.3, c.requires.fits, one_shl k.low 64 (omega (arith, k.order, k.few)))
 

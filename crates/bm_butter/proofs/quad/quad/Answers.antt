@@ -27,7 +27,8 @@ returns-clause-group c =
     (inner.ensures.sum ∙ ap (λ n. record_of (n + v)) c.number_at.ensures ∙ ap (λ n. record_of (number_in (f 0) + n)) c.number_at-2.ensures)
     (inner.ensures.difference ∙ ap (λ n. record_of (n + negative v)) c.number_at.ensures
     ∙ ap (λ n. record_of (number_in (f 0) + negative n)) c.number_at-2.ensures)
-    (outer.ensures.sum ∙ ap (λ n. record_of (n + x)) c.number_at-3.ensures ∙ ap (λ n. record_of (number_in (f 2) + n)) c.number_at-4.ensures)
+    (outer.ensures.sum ∙ ap (λ n. record_of (n + x)) c.number_at-3.ensures
+    ∙ ap (λ n. record_of (number_in (f 2) + n)) c.number_at-4.ensures)
     (outer.ensures.difference ∙ ap (λ n. record_of (n + negative x)) c.number_at-3.ensures
     ∙ ap (λ n. record_of (number_in (f 2) + negative n)) c.number_at-4.ensures) in
     by_four (λ t. record_in_order new (pick p q r s t) ≡ butterflies 2 f t)
@@ -35,5 +36,6 @@ returns-clause-group c =
     ∙ c.set_number.ensures.written ∙ c.sum_and_difference-at_p.ensures.sum ∙ rounds.first)
     (c.set_number-4.ensures.others q apart.q_s ∙ c.set_number-3.ensures.others q apart.q_r ∙ c.set_number-2.ensures.written
     ∙ c.sum_and_difference-at_q.ensures.sum ∙ rounds.second)
-    (c.set_number-4.ensures.others r apart.r_s ∙ c.set_number-3.ensures.written ∙ c.sum_and_difference-at_p.ensures.difference ∙ rounds.third)
+    (c.set_number-4.ensures.others r apart.r_s ∙ c.set_number-3.ensures.written ∙ c.sum_and_difference-at_p.ensures.difference
+    ∙ rounds.third)
     (c.set_number-4.ensures.written ∙ c.sum_and_difference-at_q.ensures.difference ∙ rounds.fourth)

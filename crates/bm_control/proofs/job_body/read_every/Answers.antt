@@ -11,7 +11,8 @@ returns-then-u16_at-eq-WHOLE_PASSES c = record {
       let read = c.u16_at.ensures ∙ numbers.version in
       elim (cases_eq every (loads_of c.args.shape.now)) [
         | inl same ↦ c.loads.ensures ∙ sym same
-        | inr other ↦ (let two = version_parts c.args.shape.now every other in absurd (omega (arith, read, two, c.if-u16_at-eq-WHOLE_PASSES.true)))
+        | inr other ↦ (let two = version_parts c.args.shape.now every other in absurd
+            (omega (arith, read, two, c.if-u16_at-eq-WHOLE_PASSES.true)))
       ];
 }
 

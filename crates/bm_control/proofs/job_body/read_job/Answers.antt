@@ -22,7 +22,8 @@ returns-then-kind-ne-WALSH-clause-read c job passes every body =
 
 pub returns-then-width-ne8-clause-read : goal.returns-then-width-ne8-clause-read
 returns-then-width-ne8-clause-read c job passes every body =
-    absurd (c.if-width-ne8.true (c.width.ensures ∙ (walsh_of c.args.shape.now c.args.page.now job passes every body c.if-kind-eq-PERMUTE.false).1))
+    absurd (c.if-width-ne8.true (c.width.ensures
+    ∙ (walsh_of c.args.shape.now c.args.page.now job passes every body c.if-kind-eq-PERMUTE.false).1))
 
 pub returns-clause-read : goal.returns-clause-read
 returns-clause-read c job passes every body =

@@ -19,7 +19,8 @@ returns-in_err-write_job-clause-sound g c told_stands told_contents does sound o
     let s = c.args.shape.now in
     let fits = g.met.R.Rack.consistent c.args.rack.now in
     let here = fits.attached told_stands c.requires.ready.0 c.requires.ready.1 in
-    let stands = loaded_stands s _ c.requires.ready.0 here (fits.sizes told_stands told_contents c.requires.ready.0 here) sound opened body in
+    let stands = loaded_stands s _ c.requires.ready.0 here (fits.sizes told_stands told_contents c.requires.ready.0 here) sound opened body
+    in
     loaded_sound s _ (loaded_within (length c.args.plan.now.forms) (c.args.every < loads_of s) s _ _ c.write_job.ensures.call.frame
     (loaded_start s _ stands (fits.sizes told_stands told_contents (dims_of s) stands) sound opened closed body))
 
@@ -29,7 +30,8 @@ returns-in_err-write_job-clause-stored g c told_stands told_contents closed dims
     let fits = g.met.R.Rack.consistent c.args.rack.now in
     let at = c.requires.ready.0 in
     let here = fits.attached told_stands at c.requires.ready.1 in
-    absurd (settled_in_image IsClosedGate job_gate _ dims image (job_gate_within (length c.args.plan.now.forms) (c.args.every < loads_of s) _ _
+    absurd (settled_in_image IsClosedGate job_gate _ dims image (job_gate_within (length c.args.plan.now.forms) (c.args.every < loads_of s)
+    _ _
     c.write_job.ensures.call.frame
     (closed_settled _ at job_gate (omega arith) here (fits.sizes told_stands told_contents at here) closed)) i gate)
 
@@ -38,7 +40,8 @@ returns-in_err-sync-clause-sound g c told_stands told_contents does sound opened
     let s = c.args.shape.now in
     let fits = g.met.R.Rack.consistent c.args.rack.now in
     let here = fits.attached told_stands c.requires.ready.0 c.requires.ready.1 in
-    let stands = loaded_stands s _ c.requires.ready.0 here (fits.sizes told_stands told_contents c.requires.ready.0 here) sound opened body in
+    let stands = loaded_stands s _ c.requires.ready.0 here (fits.sizes told_stands told_contents c.requires.ready.0 here) sound opened body
+    in
     loaded_sound s _ (loaded_within (length c.args.plan.now.forms) (c.args.every < loads_of s) s _ _
     (DirtiesOnly-trans (IsJobPage (length c.args.plan.now.forms) (c.args.every < loads_of s)) _ _ _ c.write_job.ensures.call.frame
     (DirtiesOnly-synced _ _ _ _ c.sync.ensures.synced))
@@ -50,7 +53,8 @@ returns-in_err-sync-clause-stored g c told_stands told_contents closed dims imag
     let fits = g.met.R.Rack.consistent c.args.rack.now in
     let at = c.requires.ready.0 in
     let here = fits.attached told_stands at c.requires.ready.1 in
-    absurd (settled_in_image IsClosedGate job_gate _ dims image (job_gate_within (length c.args.plan.now.forms) (c.args.every < loads_of s) _ _
+    absurd (settled_in_image IsClosedGate job_gate _ dims image (job_gate_within (length c.args.plan.now.forms) (c.args.every < loads_of s)
+    _ _
     (DirtiesOnly-trans (IsJobPage (length c.args.plan.now.forms) (c.args.every < loads_of s)) _ _ _ c.write_job.ensures.call.frame
     (DirtiesOnly-synced _ _ _ _ c.sync.ensures.synced))
     (closed_settled _ at job_gate (omega arith) here (fits.sizes told_stands told_contents at here) closed)) i gate)
@@ -60,7 +64,8 @@ returns-clause-sound g c told_stands told_contents does sound opened closed body
     let s = c.args.shape.now in
     let fits = g.met.R.Rack.consistent c.args.rack.now in
     let here = fits.attached told_stands c.requires.ready.0 c.requires.ready.1 in
-    let stands = loaded_stands s _ c.requires.ready.0 here (fits.sizes told_stands told_contents c.requires.ready.0 here) sound opened body in
+    let stands = loaded_stands s _ c.requires.ready.0 here (fits.sizes told_stands told_contents c.requires.ready.0 here) sound opened body
+    in
     let ready = loaded_within (length c.args.plan.now.forms) (c.args.every < loads_of s) s _ _
     (DirtiesOnly-trans (IsJobPage (length c.args.plan.now.forms) (c.args.every < loads_of s)) _ _ _ c.write_job.ensures.call.frame
     (DirtiesOnly-synced _ _ _ _ c.sync.ensures.synced))
@@ -78,7 +83,8 @@ returns-clause-stored g c told_stands told_contents closed dims image stands i g
     let written = subst (JobIsWritten s c.args.job.now c.args.plan.now.forms c.args.every) (sym c.sync.ensures.synced.contents)
     (c.in_ok-write_job.ensures.written told_contents refl) in
     subst (λ (p : List ℕ). IsJobBody s p c.args.job.now (length c.args.plan.now.forms) c.args.every)
-    (sym ((image_of_clean job_gate _ _ dims image (c.in_ok-sync.ensures.synced.clean refl) c.write_page_durably.ensures.call.frame i).pages job_body
+    (sym ((image_of_clean job_gate _ _ dims image (c.in_ok-sync.ensures.synced.clean refl) c.write_page_durably.ensures.call.frame i).pages
+    job_body
     (λ e. omega (arith, e)))) written.body
 
 pub returns-clause-written : goal.returns-clause-written
@@ -100,6 +106,8 @@ returns-clause-call g c =
           (DirtiesOnly-wider _ _ _ _ (start_passes (length c.args.plan.now.forms) (c.args.every < loads_of c.args.shape.now)) first)
           (DirtiesOnly-wider _ _ _ _ (start_gate (length c.args.plan.now.forms) (c.args.every < loads_of c.args.shape.now))
           c.write_page_durably.ensures.call.frame);
-      keeps = Keeps-trans _ _ _ (Keeps-trans _ _ _ c.write_job.ensures.call.keeps c.sync.ensures.keeps) c.write_page_durably.ensures.call.keeps;
-      cause = HasCause-later _ _ _ _ (Keeps-trans _ _ _ c.write_job.ensures.call.keeps c.sync.ensures.keeps) c.write_page_durably.ensures.call.cause;
+      keeps = Keeps-trans _ _ _ (Keeps-trans _ _ _ c.write_job.ensures.call.keeps c.sync.ensures.keeps)
+          c.write_page_durably.ensures.call.keeps;
+      cause = HasCause-later _ _ _ _ (Keeps-trans _ _ _ c.write_job.ensures.call.keeps c.sync.ensures.keeps)
+          c.write_page_durably.ensures.call.cause;
     }

@@ -31,7 +31,8 @@ returns-clause-written g c told ok =
     job_written c.args.shape.now c.args.job.now c.args.plan.now.forms c.args.every _
     (record {
       fits = c.requires.fits;
-      page_is = c.close_slots.ensures.call.frame.contents (page_unit job_body) (λ e. elim e [ inl x ↦ omega (arith, x) | inr x ↦ omega (arith, x) ])
+      page_is = c.close_slots.ensures.call.frame.contents (page_unit job_body)
+          (λ e. elim e [ inl x ↦ omega (arith, x) | inr x ↦ omega (arith, x) ])
           ∙ c.write_passes.ensures.call.frame.contents (page_unit job_body) (λ e. (let a = e.0 in omega (arith, a)))
           ∙ c.in_ok-write_page.ensures.written.taking told refl
           ∙ c.encode_job-body.ensures ∙ ap (λ (p : ℕ). job_page c.args.shape.now c.args.job.now p c.args.every) c.len.ensures.count;

@@ -1,7 +1,8 @@
 use Rattle.std.proofs.Common.{◌⊎◌, inl, inr, ℕ, refl, sym, ap, ◌∙◌, subst, arith}
 use Rattle.bm_base.specs.Contents.{page_unit, page_at}
 use Rattle.bm_rack.specs.Calls.{IsPage}
-use Rattle.bm_rack.proofs.FrameLemmas.{DirtiesOnly-changes, DirtiesOnly-wider, DirtiesOnly-trans, Keeps-trans, HasCause-later, RaisesCounts-trans}
+use Rattle.bm_rack.proofs.FrameLemmas.{DirtiesOnly-changes, DirtiesOnly-wider, DirtiesOnly-trans, Keeps-trans, HasCause-later}
+use Rattle.bm_rack.proofs.FrameLemmas.{RaisesCounts-trans}
 use Rattle.bm_control.specs.Pages.{pass_body, pass_gate}
 use Rattle.bm_control.proofs.PageCallLemmas.{exact}
 use Rattle.bm_control.proofs.job_start.write_pass.Goals as goal
@@ -11,7 +12,8 @@ returns-clause-body g c told ok = record {
   number = (let few = c.requires.number in omega (arith, few));
   of_shape = c.requires.shape;
   page_is = ap (page_at (g.R.Rack.view c.write_page-2.new.self).contents) (sym c.pass_body.ensures)
-      ∙ c.write_page-2.ensures.written.only.contents (page_unit c.pass_body.result) (λ e. omega (arith, e, c.pass_body.ensures, c.pass_gate.ensures))
+      ∙ c.write_page-2.ensures.written.only.contents (page_unit c.pass_body.result)
+      (λ e. omega (arith, e, c.pass_body.ensures, c.pass_gate.ensures))
       ∙ c.in_ok-write_page.ensures.written.taking told refl
       ∙ c.encode_pass-body.ensures;
 }

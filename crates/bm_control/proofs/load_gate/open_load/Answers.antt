@@ -20,8 +20,10 @@ returns-in_err-write_page_durably-clause-sound g c told_stands told_contents dim
     let sizes = fits.sizes told_stands told_contents dims stands in
     let w = c.write_page_durably.ensures.call.frame in
     sound_closed _
-    (settled_within IsClosedGate (IsPage load_body) load_gate _ _ w (λ e. omega (arith, e)) (closed_settled v dims load_gate (omega arith) stands sizes one))
-    (settled_within IsClosedGate (IsPage load_body) job_gate _ _ w (λ e. omega (arith, e)) (closed_settled v dims job_gate (omega arith) stands sizes three))
+    (settled_within IsClosedGate (IsPage load_body) load_gate _ _ w (λ e. omega (arith, e))
+    (closed_settled v dims load_gate (omega arith) stands sizes one))
+    (settled_within IsClosedGate (IsPage load_body) job_gate _ _ w (λ e. omega (arith, e))
+    (closed_settled v dims job_gate (omega arith) stands sizes three))
 
 -- the body stands on the disks before its gate is written
 pub returns-clause-sound : goal.returns-clause-sound
@@ -39,7 +41,8 @@ returns-clause-sound g c told_stands told_contents dims_are one three =
     let three_1 = settled_within IsClosedGate (IsPage load_body) job_gate _ _ first (λ e. omega (arith, e))
     (closed_settled v (dims_of s) job_gate (omega arith) stands sizes three) in
     sound_loaded _ s (second.stands ∙ first.stands ∙ stands)
-    (settled_within (λ p. p ≡ load_page s) (IsPage load_gate) load_body _ _ second (λ e. omega (arith, e)) (settled_clean (λ p. p ≡ load_page s) load_body _ clean body))
+    (settled_within (λ p. p ≡ load_page s) (IsPage load_gate) load_body _ _ second (λ e. omega (arith, e))
+    (settled_clean (λ p. p ≡ load_page s) load_body _ clean body))
     (settled_within IsClosedGate (IsPage load_gate) job_gate _ _ second (λ e. omega (arith, e)) three_1)
     (λ u input. second.dirty u (input_no_page load_gate (dims_of s) u input) (clean u))
 
@@ -47,6 +50,7 @@ pub returns-clause-body : goal.returns-clause-body
 returns-clause-body g c told =
     on_ok_weaker c.write_page_durably-2.result
     (λ (taken : page_at (g.R.Rack.view c.write_page_durably-2.new.rack).contents load_gate ≡ c.gate_page.result).
-    c.write_page_durably-2.ensures.call.frame.contents (page_unit load_body) (λ e. omega (arith, e)) ∙ c.in_ok-write_page_durably.ensures.taken told
+    c.write_page_durably-2.ensures.call.frame.contents (page_unit load_body) (λ e. omega (arith, e))
+    ∙ c.in_ok-write_page_durably.ensures.taken told
     ∙ c.encode_load.ensures)
     (c.write_page_durably-2.ensures.taken told)

@@ -13,7 +13,8 @@ loop-j-preserved c = record {
   bytes =
       c.put_u64.ensures.bytes
       ∙ ap (λ (x : List ℕ). x ++ u64_bytes (slice_index c.args.cols.now c.from.result)) c.loop-j.invariant.bytes
-      ∙ ap (λ (k : ℕ). (c.args.page.now ++ column_bytes c.args.cols.now c.loop-j.j) ++ u64_bytes (slice_index c.args.cols.now k)) c.from.ensures
+      ∙ ap (λ (k : ℕ). (c.args.page.now ++ column_bytes c.args.cols.now c.loop-j.j) ++ u64_bytes (slice_index c.args.cols.now k))
+      c.from.ensures
       ∙ append_assoc c.args.page.now (column_bytes c.args.cols.now c.loop-j.j) (u64_bytes (slice_index c.args.cols.now c.loop-j.j))
       ∙ ap (λ (k : ℕ). c.args.page.now ++ column_bytes c.args.cols.now k) (sym (add-one c.loop-j.j));
   size = (let e = c.put_u64.ensures.length in let before = c.loop-j.invariant.size in omega (arith, e, before));

@@ -1,4 +1,5 @@
-use Rattle.std.proofs.Common.{◌≡◌, ℕ, ◌+◌, ◌*◌, ◌^◌, ◌<◌, List, set, length, drop, slice_index, inl, inr, ap, sym, subst, ◌∙◌, arith, length-set}
+use Rattle.std.proofs.Common.{◌≡◌, ℕ, ◌+◌, ◌*◌, ◌^◌, ◌<◌, List, set, length, drop, slice_index, inl, inr, ap, sym, subst, ◌∙◌, arith}
+use Rattle.std.proofs.Common.{length-set}
 use Rattle.std.proofs.Common.{get_or-set_same, get_or-set_other}
 use Rattle.std.proofs.lemmas.Bool.{cases_eq}
 use Rattle.bm_forms.proofs.MldLemmas.{below_of_none}
@@ -6,7 +7,8 @@ use Rattle.bm_control.specs.Bodies.{u64_in}
 use Rattle.bm_control.proofs.map_body.read_columns.Goals as goal
 
 -- a fact of each column below k, and of column k, which was just set
-one_more : (P : ℕ → ℕ → Type 0) (cols : List ℕ) (k at v : ℕ) → at ≡ k → k < length cols → P k v → ((j : ℕ) → j < k → P j (slice_index cols j))
+one_more : (P : ℕ → ℕ → Type 0) (cols : List ℕ) (k at v : ℕ) → at ≡ k → k < length cols → P k v
+    → ((j : ℕ) → j < k → P j (slice_index cols j))
     → (j : ℕ) → j < k + 1 → P j (slice_index (set cols at v) j)
 one_more P cols k at v is within here before j below = elim (cases_eq j at) [
   | inl same ↦

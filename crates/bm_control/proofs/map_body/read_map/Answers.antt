@@ -17,7 +17,8 @@ columns_small f n j few is within =
 pub returns-then-c-n-ne0-clause-read : goal.returns-then-c-n-ne0-clause-read
 returns-then-c-n-ne0-clause-read c head f last long n page =
     let below : f.c < 2 ^ c.args.n = subst (λ (k : ℕ). f.c < 2 ^ k) n f.below in
-    let seen : c.u64_at-c.result ≡ f.c = c.u64_at-c.ensures ∙ constant_of head _ f last long (small_number f.c c.args.n c.requires.few below) page in
+    let seen : c.u64_at-c.result ≡ f.c = c.u64_at-c.ensures
+    ∙ constant_of head _ f last long (small_number f.c c.args.n c.requires.few below) page in
     absurd (c.if-c-n-ne0.true (ap (λ (v : ℕ). v / 2 ^ c.args.n) seen ∙ div-eq_of_lt below))
 
 pub returns-in_err-cols-clause-read : goal.returns-in_err-cols-clause-read
@@ -32,10 +33,12 @@ returns-clause-read c head f last long n page =
     let few : c.args.n ≤ 52 = c.requires.few in
     let found = c.in_ok-cols.ensures in
     let below : f.c < 2 ^ c.args.n = subst (λ (k : ℕ). f.c < 2 ^ k) n f.below in
-    let constant : c.u64_at-c.result ≡ f.c = c.u64_at-c.ensures ∙ constant_of head _ f last long (small_number f.c c.args.n few below) page in
+    let constant : c.u64_at-c.result ≡ f.c = c.u64_at-c.ensures ∙ constant_of head _ f last long (small_number f.c c.args.n few below) page
+    in
     let columns : c.in_ok-cols.cols ≡ f.a.cols =
     ext_get_or 0 c.in_ok-cols.cols f.a.cols (found.long ∙ sym f.a.long) (λ j h. elim (cases_lt j c.args.n) [
-      | inl within ↦ found.columns j within ∙ column_of head _ f last j long (omega (arith, n)) (columns_small f c.args.n j few n within) page
+      | inl within ↦ found.columns j within ∙ column_of head _ f last j long (omega (arith, n)) (columns_small f c.args.n j few n within)
+          page
       | inr past ↦ found.rest j past ∙ sym (f.a.rest j (omega (arith, n, past)))
     ]) in
     ap Some (affine_equal _ f (matrix_equal _ f.a (sym n) columns) constant)

@@ -8,4 +8,5 @@ pub returns : goal.returns
 unfolding u16_in
 returns c =
     c.read_u16.ensures
-    ∙ ap (little_number 2) (take_all _ (drop c.args.place c.args.page.now) (omega (arith, length-drop c.args.place c.args.page.now, c.told-page)))
+    ∙ ap (little_number 2) (take_all _ (drop c.args.place c.args.page.now)
+    (omega (arith, length-drop c.args.place c.args.page.now, c.told-page)))

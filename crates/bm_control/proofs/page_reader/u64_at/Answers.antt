@@ -8,4 +8,5 @@ pub returns : goal.returns
 unfolding u64_in
 returns c =
     c.read_u64.ensures
-    ∙ ap (little_number 8) (take_all _ (drop c.args.place c.args.page.now) (omega (arith, length-drop c.args.place c.args.page.now, c.told-page)))
+    ∙ ap (little_number 8) (take_all _ (drop c.args.place c.args.page.now)
+    (omega (arith, length-drop c.args.place c.args.page.now, c.told-page)))

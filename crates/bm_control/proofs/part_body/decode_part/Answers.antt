@@ -36,7 +36,8 @@ returns-else-same_page c pass loads = (
       let numbers = part_numbers c.args.shape.now _ pass loads body in
       let one = c.u16_at-pass.ensures ∙ numbers.pass_is in
       let two = c.u64_at-loads.ensures ∙ numbers.loads_are in
-      let yes = c.same_page.ensures.1 (c.encode_part.ensures ∙ ap (λ (p : ℕ). part_page p c.u64_at-loads.result) one ∙ ap (part_page pass) two
+      let yes = c.same_page.ensures.1 (c.encode_part.ensures ∙ ap (λ (p : ℕ). part_page p c.u64_at-loads.result) one
+      ∙ ap (part_page pass) two
       ∙ sym body.page_is) in
       absurd (one_outcome c.same_page.result yes c.if-same_page.false),
 )

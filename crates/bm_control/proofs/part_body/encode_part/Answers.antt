@@ -7,5 +7,6 @@ pub returns : goal.returns
 unfolding part_page
 returns c =
     c.finish.ensures
-    ∙ ap (padded 512) (joined_5 _ _ _ _ _ _ _ _ _ _ _ c.new-page.ensures c.put.ensures.bytes c.put_u16.ensures.bytes c.put_u16-2.ensures.bytes
+    ∙ ap (padded 512) (joined_5 _ _ _ _ _ _ _ _ _ _ _ c.new-page.ensures c.put.ensures.bytes c.put_u16.ensures.bytes
+    c.put_u16-2.ensures.bytes
     c.put-2.ensures.bytes c.put_u64.ensures.bytes)

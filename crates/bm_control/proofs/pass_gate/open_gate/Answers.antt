@@ -19,4 +19,5 @@ returns-clause-sound g c told_stands told_contents sound done =
     sound_opening _ _ dims c.args.k stands (fits.sizes told_stands told_contents dims stands) (sound_synced _ _ _ s sound)
     (c.in_ok-sync.ensures.synced.clean refl)
     (subst (λ (v : Contents). PassIsDone v c.args.k) (sym s.contents) done)
-    (subst (λ (page : ℕ). DirtiesOnly (IsPage page) (g.R.Rack.view c.sync.new.self) (g.R.Rack.view c.write_page_durably.new.rack)) c.pass_gate.ensures c.write_page_durably.ensures.call.frame)
+    (subst (λ (page : ℕ). DirtiesOnly (IsPage page) (g.R.Rack.view c.sync.new.self) (g.R.Rack.view c.write_page_durably.new.rack))
+    c.pass_gate.ensures c.write_page_durably.ensures.call.frame)

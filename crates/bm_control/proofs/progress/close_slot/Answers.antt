@@ -20,7 +20,8 @@ returns-clause-sound g c told_stands told_contents sound =
     let opened = ap (λ (v : Contents). page_at v (slot_gate c.args.slot)) state.contents
     ∙ ap (page_at (g.R.Rack.view c.args.rack.now).contents) (sym c.slot_gate.ensures)
     ∙ sym page ∙ c.is_gate.ensures.0 c.if-not-is_gate.false in
-    sound_closing_slot (g.R.Rack.view c.read_page.new.self) (g.R.Rack.view c.write_page_durably.new.rack) dims c.args.slot c.requires.slot stands
+    sound_closing_slot (g.R.Rack.view c.read_page.new.self) (g.R.Rack.view c.write_page_durably.new.rack) dims c.args.slot c.requires.slot
+    stands
     (fits.sizes told_stands told_contents dims stands) (sound_same _ _ state sound) opened
     (subst (λ (k : ℕ). DirtiesOnly (IsPage k) (g.R.Rack.view c.read_page.new.self) (g.R.Rack.view c.write_page_durably.new.rack))
     c.slot_gate-2.ensures c.write_page_durably.ensures.call.frame)
@@ -34,7 +35,8 @@ returns-clause-closed g c told =
 
 pub returns-clause-zeros : goal.returns-clause-zeros
 returns-clause-zeros g c told opened =
-    subst (λ (page : ℕ). OnOk c.write_page_durably.result (IsZeroPage (page_at (g.R.Rack.view c.write_page_durably.new.rack).contents page)))
+    subst (λ (page : ℕ). OnOk c.write_page_durably.result
+    (IsZeroPage (page_at (g.R.Rack.view c.write_page_durably.new.rack).contents page)))
     c.slot_gate-2.ensures (c.write_page_durably.ensures.taken told)
 
 pub returns-clause-from_open : goal.returns-clause-from_open

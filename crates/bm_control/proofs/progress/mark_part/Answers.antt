@@ -26,7 +26,8 @@ returns-clause-sound g c told_stands told_contents sound clean part =
     let first = c.close_slot.ensures.call.frame in
     let stands = first.stands ∙ (g.met.R.Rack.consistent c.args.rack.now).attached told_stands dims c.requires.ready.1 in
     let fits = g.met.R.Rack.consistent c.close_slot.new.rack in
-    let second : DirtiesOnly (IsPage (slot_body c.args.slot)) (g.R.Rack.view c.close_slot.new.rack) (g.R.Rack.view c.write_page_durably.new.rack) =
+    let second : DirtiesOnly (IsPage (slot_body c.args.slot)) (g.R.Rack.view c.close_slot.new.rack)
+    (g.R.Rack.view c.write_page_durably.new.rack) =
     subst (λ (k : ℕ). DirtiesOnly (IsPage k) (g.R.Rack.view c.close_slot.new.rack) (g.R.Rack.view c.write_page_durably.new.rack))
     c.slot_body.ensures c.write_page_durably.ensures.call.frame in
     let third : DirtiesOnly (IsPage (slot_gate c.args.slot)) (g.R.Rack.view c.write_page_durably.new.rack)
@@ -35,7 +36,8 @@ returns-clause-sound g c told_stands told_contents sound clean part =
     (g.R.Rack.view c.write_page_durably-2.new.rack)) c.slot_gate.ensures c.write_page_durably-2.ensures.call.frame in
     let sound_2 = sound_writing_part _ _ dims c.args.slot c.requires.slot stands (fits.sizes told_stands told_contents dims stands)
     (c.close_slot.ensures.sound told_stands told_contents sound)
-    (record { clean = c.in_ok-close_slot.ensures.settled told_contents clean; holds = c.in_ok-close_slot.ensures.closed told_contents }) second in
+    (record { clean = c.in_ok-close_slot.ensures.settled told_contents clean; holds = c.in_ok-close_slot.ensures.closed told_contents })
+    second in
     let stands_2 = second.stands ∙ stands in
     let fits_2 = g.met.R.Rack.consistent c.write_page_durably.new.rack in
     let body = ap (page_at (g.R.Rack.view c.write_page_durably.new.rack).contents) (sym c.slot_body.ensures)

@@ -39,7 +39,8 @@ returns-clause-good g c told_stands told_contents sound page is =
     let fits = g.met.R.Rack.consistent c.args.rack.now in
     let dims = c.requires.0 in
     let stands = fits.attached told_stands dims c.requires.1 in
-    sound_no_bad_answer dims (g.R.Rack.view c.args.rack.now) c.read_job_state.result page stands (fits.sizes told_stands told_contents dims stands) sound
+    sound_no_bad_answer dims (g.R.Rack.view c.args.rack.now) c.read_job_state.result page stands
+    (fits.sizes told_stands told_contents dims stands) sound
     (returns-clause-answer g c told_contents) is
 
 pub returns-in_err-load_body-clause-pages : goal.returns-in_err-load_body-clause-pages

@@ -31,7 +31,8 @@ returns-in_err-scan-clause-moved g c =
     let load = c.loop-load.load in
     let rows = load_stripes s in
     let few : load * rows + rows ≤ stripes s = load_in_area s load (omega (arith, c.loads-load-end.ensures)) in
-    MovesRows-failed (load * rows) rows (stripes s) _ _ _ _ _ few (error_not_ok c.from_residual.result c.from_residual.ensures.0) c.loop-load.invariant.moved
+    MovesRows-failed (load * rows) rows (stripes s) _ _ _ _ _ few (error_not_ok c.from_residual.result c.from_residual.ensures.0)
+    c.loop-load.invariant.moved
     c.in_err-scan.ensures.moved
 
 pub loop-load-preserved : goal.loop-load-preserved

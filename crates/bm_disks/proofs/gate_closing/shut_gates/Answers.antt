@@ -8,7 +8,8 @@ use Rattle.bm_disks.proofs.gate_closing.shut_gates.Goals as goal
 
 pub returns-in_err-shut_job-clause-sound : goal.returns-in_err-shut_job-clause-sound
 returns-in_err-shut_job-clause-sound g c stands told sound =
-    c.shut_job.ensures.sound stands told (sound_synced _ _ c.sync.result c.sync.ensures.synced sound) (c.in_ok-sync.ensures.synced.clean refl)
+    c.shut_job.ensures.sound stands told (sound_synced _ _ c.sync.result c.sync.ensures.synced sound)
+    (c.in_ok-sync.ensures.synced.clean refl)
 
 pub returns-clause-job_gate : goal.returns-clause-job_gate
 returns-clause-job_gate g c told =

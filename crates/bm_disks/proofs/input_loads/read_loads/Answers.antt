@@ -11,7 +11,8 @@ use Rattle.bm_base.proofs.ShapeLemmas.{loads_rows, loads_records}
 use Rattle.bm_rack.proofs.CallLemmas.{MovesRows-part, MovesRows-next, MovesRows-failed, MovesRows-all}
 use Rattle.bm_base.proofs.CaseLemmas.{ok_of_no_error}
 use Rattle.bm_job.proofs.AreaLoadLemmas.{loads_written}
-use Rattle.bm_disks.proofs.LoadLemmas.{record_of_fill, left_after_fill, input_fits, load_bytes_fit, load_start_fits, ends_in_load, all_bytes, IsRead-later}
+use Rattle.bm_disks.proofs.LoadLemmas.{record_of_fill, left_after_fill, input_fits, load_bytes_fit, load_start_fits, ends_in_load}
+use Rattle.bm_disks.proofs.LoadLemmas.{all_bytes, IsRead-later}
 use Rattle.bm_disks.proofs.input_loads.read_loads.Goals as goal
 
 pub returns-in-Err-Fault-clause-moved : goal.returns-in-Err-Fault-clause-moved
@@ -83,7 +84,8 @@ loop-load-preserved g c =
     let size : length c.fill.new.into ≡ load_size s = c.fill.auto.into ∙ c.loop-load.auto.buf ∙ c.requires.size in
     let all = g.S.Source.left c.args.input.now in
     let left = g.S.Source.left c.fill.new.source in
-    let after = λ (told : IsTrue g.S.Source.tells). left_after_fill (load_size s) load all (g.S.Source.left c.loop-load.input) c.fill.new.into left
+    let after = λ (told : IsTrue g.S.Source.tells). left_after_fill (load_size s) load all (g.S.Source.left c.loop-load.input)
+    c.fill.new.into left
     (inv.whole told) (inv.taken told) (c.in-Ok.ensures.whole told refl) size in
     record {
       only = ChangesOnly-trans _ _ _ _ inv.only
@@ -129,7 +131,8 @@ returns-in-Err-Fault-clause-few g c told =
     let s = c.args.shape.now in
     let fits = load_bytes_fit s c.loop-load.load (omega (arith, c.loads-load-end.ensures)) in
     let size : length c.loop-load.buf ≡ load_size s = c.loop-load.auto.buf ∙ c.requires.size in
-    IsRead-later (load_size s * c.loop-load.load) (load_size s) (input_size s) _ _ _ (omega (arith, fits)) (c.loop-load.invariant.taken told)
+    IsRead-later (load_size s * c.loop-load.load) (load_size s) (input_size s) _ _ _ (omega (arith, fits))
+    (c.loop-load.invariant.taken told)
     (rw size at (c.fill.ensures.few told))
 
 pub returns-in-Err-Short-clause-few : goal.returns-in-Err-Short-clause-few
@@ -137,7 +140,8 @@ returns-in-Err-Short-clause-few g c told =
     let s = c.args.shape.now in
     let fits = load_bytes_fit s c.loop-load.load (omega (arith, c.loads-load-end.ensures)) in
     let size : length c.loop-load.buf ≡ load_size s = c.loop-load.auto.buf ∙ c.requires.size in
-    IsRead-later (load_size s * c.loop-load.load) (load_size s) (input_size s) _ _ _ (omega (arith, fits)) (c.loop-load.invariant.taken told)
+    IsRead-later (load_size s * c.loop-load.load) (load_size s) (input_size s) _ _ _ (omega (arith, fits))
+    (c.loop-load.invariant.taken told)
     (rw size at (c.fill.ensures.few told))
 
 pub returns-then-is_err-clause-few : goal.returns-then-is_err-clause-few
@@ -145,7 +149,8 @@ returns-then-is_err-clause-few g c told =
     let s = c.args.shape.now in
     let fits = load_bytes_fit s c.loop-load.load (omega (arith, c.loads-load-end.ensures)) in
     let size : length c.loop-load.buf ≡ load_size s = c.loop-load.auto.buf ∙ c.requires.size in
-    IsRead-later (load_size s * c.loop-load.load) (load_size s) (input_size s) _ _ _ (omega (arith, fits)) (c.loop-load.invariant.taken told)
+    IsRead-later (load_size s * c.loop-load.load) (load_size s) (input_size s) _ _ _ (omega (arith, fits))
+    (c.loop-load.invariant.taken told)
     (rw size at (c.fill.ensures.few told))
 
 pub returns-clause-few : goal.returns-clause-few

@@ -68,8 +68,10 @@ returns-in_err-open_load-in-Ok-clause-call g c =
     let failed = HasCause-later _ _ _ _ (Keeps-trans _ _ _ c.shut_gates.ensures.call.keeps c.read_input.ensures.keeps)
     c.in_err-open_load-in-Ok.ensures.call.cause in
     record {
-      frame = loading_frame c.args.shape.now _ _ _ _ c.shut_gates.ensures.call.frame c.read_input.ensures.only c.open_load.ensures.call.frame;
-      keeps = Keeps-trans _ _ _ c.shut_gates.ensures.call.keeps (Keeps-trans _ _ _ c.read_input.ensures.keeps c.open_load.ensures.call.keeps);
+      frame = loading_frame c.args.shape.now _ _ _ _ c.shut_gates.ensures.call.frame c.read_input.ensures.only
+          c.open_load.ensures.call.frame;
+      keeps = Keeps-trans _ _ _ c.shut_gates.ensures.call.keeps
+          (Keeps-trans _ _ _ c.read_input.ensures.keeps c.open_load.ensures.call.keeps);
       cause = record { rose = λ _. failed.rose refl; sure = λ steady going _. failed.sure steady going refl };
     }
 

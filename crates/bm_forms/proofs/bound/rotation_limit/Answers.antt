@@ -12,4 +12,5 @@ returns-clause-limit c =
     ∙ ap (λ (r : ℕ). div_ceil r (c.args.shape.now.m - c.args.shape.now.b) + 2)
     (rotation_rank c.rotation.result.cols c.args.shape.now.n c.args.by c.args.shape.now.b (omega arith)
     (λ j h. subst (λ (n : ℕ). slice_index c.rotation.result.cols j ≡ 2 ^ ((j + n - c.args.by) % n)) c.n.ensures
-    (c.rotation.ensures.columns (subst (λ (n : ℕ). c.args.by ≤ n) (sym c.n.ensures) (omega arith)) j (subst (λ (n : ℕ). j < n) (sym c.n.ensures) h))))
+    (c.rotation.ensures.columns (subst (λ (n : ℕ). c.args.by ≤ n) (sym c.n.ensures) (omega arith)) j
+    (subst (λ (n : ℕ). j < n) (sym c.n.ensures) h))))

@@ -28,10 +28,12 @@ returns-clause-images g c told_stands told_contents clean closed =
 pub returns-clause-follows : goal.returns-clause-follows
 returns-clause-follows g c told_stands told_contents sound clean loaded =
     let s = c.args.shape.now in
-    let now = c.start_job.ensures.sound told_stands told_contents c.requires.stands sound (clean_page IsOpenGate load_gate _ clean loaded.load_gate)
+    let now = c.start_job.ensures.sound told_stands told_contents c.requires.stands sound
+    (clean_page IsOpenGate load_gate _ clean loaded.load_gate)
     (clean_page IsClosedGate job_gate _ clean loaded.job_gate) loaded.load_body in
     record {
-      held = started_held s c.args.job.now c.args.plan.now.forms c.len.result c.args.every _ _ c.len.ensures.count c.requires.attached loaded
+      held = started_held s c.args.job.now c.args.plan.now.forms c.len.result c.args.every _ _ c.len.ensures.count c.requires.attached
+          loaded
           c.start_job.ensures.call.frame c.in_ok-start_job.ensures.clean (c.in_ok-start_job.ensures.opened told_contents)
           (c.in_ok-start_job.ensures.written told_contents) now;
       form = λ form is. absurd (none_some form is);

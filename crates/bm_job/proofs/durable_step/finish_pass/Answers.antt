@@ -18,7 +18,8 @@ returns-in_err-open_gate-clause-sound g c told_stands told_contents holds =
     let fits = g.met.R.Rack.consistent c.args.rack.now in
     let stands = fits.attached told_stands (dims_of m.shape) c.requires.attached in
     c.open_gate.ensures.sound told_stands told_contents holds.held.sound
-    (pass_done m.shape m.job m.passes m.done m.every m.part m.slot (m.load + 1) _ stands (fits.sizes told_stands told_contents (dims_of m.shape) stands)
+    (pass_done m.shape m.job m.passes m.done m.every m.part m.slot (m.load + 1) _ stands
+    (fits.sizes told_stands told_contents (dims_of m.shape) stands)
     holds.held c.requires.left c.requires.last holds.moved)
 
 pub returns-clause-sound : goal.returns-clause-sound
@@ -27,7 +28,8 @@ returns-clause-sound g c told_stands told_contents holds =
     let fits = g.met.R.Rack.consistent c.args.rack.now in
     let stands = fits.attached told_stands (dims_of m.shape) c.requires.attached in
     c.open_gate.ensures.sound told_stands told_contents holds.held.sound
-    (pass_done m.shape m.job m.passes m.done m.every m.part m.slot (m.load + 1) _ stands (fits.sizes told_stands told_contents (dims_of m.shape) stands)
+    (pass_done m.shape m.job m.passes m.done m.every m.part m.slot (m.load + 1) _ stands
+    (fits.sizes told_stands told_contents (dims_of m.shape) stands)
     holds.held c.requires.left c.requires.last holds.moved)
 
 pub returns-clause-follows : goal.returns-clause-follows
@@ -38,9 +40,11 @@ returns-clause-follows g c told_stands told_contents holds =
     let sizes = fits.sizes told_stands told_contents (dims_of m.shape) stands in
     let few = few_passes m.shape m.job m.passes m.done m.every m.part m.slot m.load m.keeps in
     let sound = c.open_gate.ensures.sound told_stands told_contents holds.held.sound
-    (pass_done m.shape m.job m.passes m.done m.every m.part m.slot (m.load + 1) _ stands sizes holds.held c.requires.left c.requires.last holds.moved) in
+    (pass_done m.shape m.job m.passes m.done m.every m.part m.slot (m.load + 1) _ stands sizes holds.held c.requires.left c.requires.last
+    holds.moved) in
     record {
-      held = held_finished m.shape m.job m.passes m.done m.every m.part m.slot _ _ stands sizes holds.held c.requires.left few c.open_gate.ensures.call.frame
+      held = held_finished m.shape m.job m.passes m.done m.every m.part m.slot _ _ stands sizes holds.held c.requires.left few
+          c.open_gate.ensures.call.frame
           (c.in_ok-open_gate.ensures.clean) (c.in_ok-open_gate.ensures.opened told_contents) sound;
       form = λ form is. absurd (none_some form is);
       moved = moved_none m.shape (m.done + 1) _;

@@ -23,7 +23,8 @@ pub invariant_of-result : goal.invariant_of-result
 invariant_of-result g c =
     let m = c.args.machine.now in
     record {
-      keeps = marked_fits m.shape m.job m.passes m.done m.every m.part m.slot m.load c.free_of-slot.result m.keeps c.requires.left c.requires.marked.0 c.requires.marked.1
+      keeps = marked_fits m.shape m.job m.passes m.done m.every m.part m.slot m.load c.free_of-slot.result m.keeps c.requires.left
+          c.requires.marked.0 c.requires.marked.1
           c.free_of-slot.ensures.range;
       of_shape = λ f is. subst (IsOfShape m.shape) (some_injective c.args.form.now f is) c.requires.of_shape;
     }
@@ -36,7 +37,8 @@ returns-in_err-mark_part-clause-sound g c told_stands told_contents holds =
     let less = marked_parts _ m.load m.every c.requires.marked.0 c.requires.marked.1 in
     c.mark_part.ensures.sound told_stands told_contents holds.held.sound
     (holds.held.outside _ (λ left is. is))
-    (part_moved m.shape m.job m.passes m.done m.every m.part m.slot (m.load + 1) _ stands (fits.sizes told_stands told_contents (dims_of m.shape) stands)
+    (part_moved m.shape m.job m.passes m.done m.every m.part m.slot (m.load + 1) _ stands
+    (fits.sizes told_stands told_contents (dims_of m.shape) stands)
     holds.held c.requires.left less holds.moved)
 
 pub returns-clause-sound : goal.returns-clause-sound
@@ -47,7 +49,8 @@ returns-clause-sound g c told_stands told_contents holds =
     let less = marked_parts _ m.load m.every c.requires.marked.0 c.requires.marked.1 in
     c.mark_part.ensures.sound told_stands told_contents holds.held.sound
     (holds.held.outside _ (λ left is. is))
-    (part_moved m.shape m.job m.passes m.done m.every m.part m.slot (m.load + 1) _ stands (fits.sizes told_stands told_contents (dims_of m.shape) stands)
+    (part_moved m.shape m.job m.passes m.done m.every m.part m.slot (m.load + 1) _ stands
+    (fits.sizes told_stands told_contents (dims_of m.shape) stands)
     holds.held c.requires.left less holds.moved)
 
 pub returns-in_err-mark_part-clause-call : goal.returns-in_err-mark_part-clause-call
@@ -68,16 +71,25 @@ returns-clause-follows g c told_stands told_contents holds next =
     let frame = c.mark_part.ensures.call.frame in
     let more = m.keeps.moved in
     let sound = c.mark_part.ensures.sound told_stands told_contents holds.held.sound (holds.held.outside _ (λ left is. is))
-    (part_moved m.shape m.job m.passes m.done m.every m.part m.slot (m.load + 1) _ stands (fits.sizes told_stands told_contents (dims_of m.shape) stands)
+    (part_moved m.shape m.job m.passes m.done m.every m.part m.slot (m.load + 1) _ stands
+    (fits.sizes told_stands told_contents (dims_of m.shape) stands)
     holds.held left less holds.moved) in
     let differ = pages_differ (IsSlotPage free) _ _ frame (λ disk place is. is) in
     record {
       held = held_marked m.shape m.job m.passes m.done m.every m.part m.slot (m.load + 1) free _ _ holds.held left few less
-          (record { pass_some = omega arith; pass_few = omega (arith, few, left); loads_some = omega arith; loads_few = c.requires.marked.0 })
-          (omega (arith, more)) c.free_of-slot.ensures.range frame c.in_ok-mark_part.ensures.clean (c.in_ok-mark_part.ensures.opened told_contents)
+          (record {
+            pass_some = omega arith;
+            pass_few = omega (arith, few, left);
+            loads_some = omega arith;
+            loads_few = c.requires.marked.0;
+          })
+          (omega (arith, more)) c.free_of-slot.ensures.range frame c.in_ok-mark_part.ensures.clean
+          (c.in_ok-mark_part.ensures.opened told_contents)
           (c.in_ok-mark_part.ensures.body told_contents) sound;
-      form = λ form is. subst (λ f. IsNext m.shape m.done (g.R.Rack.view c.mark_part.new.rack).contents f) (some_injective c.args.form.now form is)
-          (subst (λ (p : List ℕ). IsPassBody m.shape m.done p c.args.form.now) (sym (differ.pages (pass_body m.done) (λ is. early (pass_body m.done) (omega (arith, left, few)) is))) next);
+      form = λ form is. subst (λ f. IsNext m.shape m.done (g.R.Rack.view c.mark_part.new.rack).contents f)
+          (some_injective c.args.form.now form is)
+          (subst (λ (p : List ℕ). IsPassBody m.shape m.done p c.args.form.now)
+          (sym (differ.pages (pass_body m.done) (λ is. early (pass_body m.done) (omega (arith, left, few)) is))) next);
       moved = moved_kept _ m.shape m.done (m.load + 1) _ _ differ (early (pass_body m.done) (omega (arith, left, few))) holds.moved;
     }
   where

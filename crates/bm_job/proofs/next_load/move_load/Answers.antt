@@ -22,9 +22,11 @@ returns-clause-held g c told_stands told_contents follows next =
     let form = c.args.form.now in
     let fits = g.met.R.Rack.consistent c.args.rack.now in
     let stands = fits.attached told_stands (dims_of m.shape) c.requires.attached in
-    let only = subst (λ (a : Area). ChangesOnly (IsTargetUnit m.shape form a m.load) (g.R.Rack.view c.args.rack.now) (g.R.Rack.view c.load_step.new.rack))
+    let only = subst (λ (a : Area). ChangesOnly (IsTargetUnit m.shape form a m.load) (g.R.Rack.view c.args.rack.now)
+    (g.R.Rack.view c.load_step.new.rack))
     c.area_of-to.ensures c.load_step.ensures.only in
-    held_working m.shape m.job m.passes m.done m.every m.part m.slot m.load form _ _ stands (fits.sizes told_stands told_contents (dims_of m.shape) stands)
+    held_working m.shape m.job m.passes m.done m.every m.part m.slot m.load form _ _ stands
+    (fits.sizes told_stands told_contents (dims_of m.shape) stands)
     follows.held next c.requires.left m.keeps.moved m.keeps.within only
 
 pub returns-clause-moved : goal.returns-clause-moved
@@ -33,11 +35,13 @@ returns-clause-moved g c told follows next =
     let form = c.args.form.now in
     let before = g.R.Rack.view c.args.rack.now in
     let after = g.R.Rack.view c.load_step.new.rack in
-    let only = subst (λ (a : Area). ChangesOnly (IsTargetUnit m.shape form a m.load) before after) c.area_of-to.ensures c.load_step.ensures.only in
+    let only = subst (λ (a : Area). ChangesOnly (IsTargetUnit m.shape form a m.load) before after) c.area_of-to.ensures
+    c.load_step.ensures.only in
     on_ok_weaker c.load_step.result
     (λ (one : LoadMoved m.shape form c.area_of-from.result c.area_of-to.result m.load before.contents after.contents).
     moved_more m.shape m.done m.load form before after next m.keeps.within only follows.moved
-    (subst₂ (λ (from to : Area). LoadMoved m.shape form from to m.load before.contents after.contents) c.area_of-from.ensures c.area_of-to.ensures one))
+    (subst₂ (λ (from to : Area). LoadMoved m.shape form from to m.load before.contents after.contents) c.area_of-from.ensures
+    c.area_of-to.ensures one))
     (c.load_step.ensures.records told)
 
 pub returns-clause-next : goal.returns-clause-next
@@ -52,7 +56,8 @@ pub returns-clause-call : goal.returns-clause-call
 returns-clause-call g c =
     let m = c.args.machine.now in
     let form = c.args.form.now in
-    let only = subst (λ (a : Area). ChangesOnly (IsTargetUnit m.shape form a m.load) (g.R.Rack.view c.args.rack.now) (g.R.Rack.view c.load_step.new.rack))
+    let only = subst (λ (a : Area). ChangesOnly (IsTargetUnit m.shape form a m.load) (g.R.Rack.view c.args.rack.now)
+    (g.R.Rack.view c.load_step.new.rack))
     c.area_of-to.ensures c.load_step.ensures.only in
     let to = area_after (m.done + 1) in
     record {

@@ -45,9 +45,12 @@ returns-clause-fits c =
     let passes_few = start.keeps.passes_few in
     let most = loads_few start in
     let fresh = c.requires.fresh in
-    let all : c.args.end.now.passes * loads_of start.shape ≡ start.passes * loads_of start.shape = ap (λ (k : ℕ). k * loads_of start.shape) passes in
-    let left : c.moved.result - c.moved-2.result ≡ c.args.end.now.passes * loads_of start.shape - (start.done * loads_of start.shape + start.part) =
-    (let to = c.moved.ensures in let from = c.moved-2.ensures in let between = left_between start c.args.end.now c.requires.end in omega (arith, to, from, between, all, fresh)) in
+    let all : c.args.end.now.passes * loads_of start.shape ≡ start.passes * loads_of start.shape = ap (λ (k : ℕ). k * loads_of start.shape)
+    passes in
+    let left : c.moved.result - c.moved-2.result ≡ c.args.end.now.passes * loads_of
+    start.shape - (start.done * loads_of start.shape + start.part) =
+    (let to = c.moved.ensures in let from = c.moved-2.ensures in let between = left_between start c.args.end.now c.requires.end in omega
+    (arith, to, from, between, all, fresh)) in
     let rows : c.load_stripes.result ≡ load_stripes start.shape = c.load_stripes.ensures ∙ ap load_stripes c.requires.end.same.shape in
     record {
       passes_some = c.args.end.now.keeps.passes_some;

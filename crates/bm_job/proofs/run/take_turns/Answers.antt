@@ -15,8 +15,10 @@ loop-machine-preserved g c =
     let m = c.loop-machine.machine in
     let left = left_of c.finished.result m.done m.passes c.loop-machine-test.true c.finished.ensures.1 m.keeps.done_few in
     record {
-      way = on_way_next g.R.Rack.tells_stands g.R.Rack.tells_contents c.args.start.now m c.turn.new.self _ _ _ _ _ c.loop-machine.invariant.way
-          (c.in_ok-turn.ensures.next left) (c.in_ok-turn.ensures.moved left) c.in_ok-turn.ensures.follows c.turn.ensures.call c.turn.ensures.input
+      way = on_way_next g.R.Rack.tells_stands g.R.Rack.tells_contents c.args.start.now m c.turn.new.self _ _ _ _ _
+          c.loop-machine.invariant.way
+          (c.in_ok-turn.ensures.next left) (c.in_ok-turn.ensures.moved left) c.in_ok-turn.ensures.follows c.turn.ensures.call
+          c.turn.ensures.input
           refl (c.in_ok-turn.ensures.counts left);
       fits = search rules;
     }
@@ -31,7 +33,8 @@ returns-in_err-turn-clause-good g c told bodies page is =
     let m = c.loop-machine.machine in
     let left = left_of c.finished.result m.done m.passes c.loop-machine-test.true c.finished.ensures.1 m.keeps.done_few in
     body_stands g.R.Rack.tells_stands g.R.Rack.tells_contents c.args.start.now m _ _ page c.loop-machine.invariant.way left bodies
-    (c.turn.ensures.bad told page (c.in_err-turn.was ∙ refusal_of _ _ (sym (error_is c.from_residual.result _ c.from_residual.ensures.1) ∙ is)))
+    (c.turn.ensures.bad told page (c.in_err-turn.was ∙ refusal_of _ _ (sym (error_is c.from_residual.result _ c.from_residual.ensures.1)
+    ∙ is)))
 
 pub returns-in_err-turn-clause-reached : goal.returns-in_err-turn-clause-reached
 returns-in_err-turn-clause-reached g c told_stands told_contents follows =

@@ -16,12 +16,14 @@ loop-disk-preserved c =
           let some = some_if _ (sym c.is_some.ensures ∙ w.if-is_some.true) in
           record {
             cleared = subst P (sym (w.bytes-is ∙ w.clear_bytes.ensures)) (read_more dims k some.0 (zero_block dims) places
-                c.args.bytes.now c.loop-disk.bytes (zero_block dims k some.0) (omega arith) (omega arith) (length-replicate dims.block 0) refl some.1 c.loop-disk.invariant.cleared);
+                c.args.bytes.now c.loop-disk.bytes (zero_block dims k some.0) (omega arith) (omega arith) (length-replicate dims.block 0)
+                refl some.1 c.loop-disk.invariant.cleared);
             block = refl;
           }
       | else-is_some w ↦ record {
         cleared = subst P (sym w.bytes-is) (read_skip dims k (zero_block dims) places
-            c.args.bytes.now c.loop-disk.bytes (omega arith) (none_if _ (sym c.is_some.ensures ∙ w.if-is_some.false)) c.loop-disk.invariant.cleared);
+            c.args.bytes.now c.loop-disk.bytes (omega arith) (none_if _ (sym c.is_some.ensures ∙ w.if-is_some.false))
+            c.loop-disk.invariant.cleared);
         block = refl;
       }
     ]

@@ -21,7 +21,8 @@ loop-disk-preserved c =
           record {
             read = subst P (sym e) (read_more dims k p block_of c.args.places.now c.args.bytes.now c.loop-disk.bytes (block_of k p)
                 (omega arith) (omega arith)
-                (chunk_long dims.block (dims.disks * dims.places) (number dims k p) c.args.flat.now c.requires.flat (number_below dims k p (omega arith) on_disk))
+                (chunk_long dims.block (dims.disks * dims.places) (number dims k p) c.args.flat.now c.requires.flat
+                (number_below dims k p (omega arith) on_disk))
                 refl w.in-Some.is c.loop-disk.invariant.read);
             block = refl;
           }

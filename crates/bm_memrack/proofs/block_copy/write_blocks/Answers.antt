@@ -24,14 +24,16 @@ loop-disk-preserved c =
           let flat_is = w.flat-is ∙ w.copy_bytes.ensures ∙ ap (λ x. put_mid (x * dims.block) len flat row) n in
           let flags_are = w.dirty_blocks-is ∙ ap (λ x. set flags x true) n in
           let on_disk = c.requires.below k p (omega arith) w.in-Some.is in
-          let more = write_more dims k p len places bytes c.args.flat.now flat c.args.dirty_blocks.now flags (omega arith) on_disk c.requires.below
+          let more = write_more dims k p len places bytes c.args.flat.now flat c.args.dirty_blocks.now flags (omega arith) on_disk
+          c.requires.below
           (omega arith) (omega arith) c.requires.bytes c.requires.len w.in-Some.is c.loop-disk.invariant.written in
           record {
             written = subst (λ x. P x c.match-place.dirty_blocks) (sym flat_is) (subst (λ y. P next y) (sym flags_are) more);
             block = refl;
           }
       | in_default w ↦
-          let skip = write_skip dims k len places bytes c.args.flat.now flat c.args.dirty_blocks.now flags w.in_default.is c.loop-disk.invariant.written in
+          let skip = write_skip dims k len places bytes c.args.flat.now flat c.args.dirty_blocks.now flags w.in_default.is
+          c.loop-disk.invariant.written in
           record {
             written = subst (λ x. P x c.match-place.dirty_blocks) (sym w.flat-is) (subst (λ y. P flat y) (sym w.dirty_blocks-is) skip);
             block = refl;

@@ -4,7 +4,8 @@ use borrow.Rule.Slice.PartMut.{put_mid}
 use Rattle.bm_memrack.specs.declared.crash_choice.CrashChoice.{CrashChoice}
 use Rattle.bm_memrack.specs.BlockCopy.{flag_at}
 use Rattle.bm_memrack.specs.CrashChoice.{choice_of, remains_of}
-use Rattle.bm_memrack.proofs.CrashChoiceLemmas.{UnitsChosen, dirty_count-zero, chosen_none, dirty_count_yes, dirty_count_no, chosen_skip, chosen_more}
+use Rattle.bm_memrack.proofs.CrashChoiceLemmas.{UnitsChosen, dirty_count-zero, chosen_none, dirty_count_yes, dirty_count_no, chosen_skip}
+use Rattle.bm_memrack.proofs.CrashChoiceLemmas.{chosen_more}
 use Rattle.bm_memrack.proofs.crash_choice.choose_units.Goals as goal
 use Rattle.bm_memrack.proofs.crash_choice.choose_units.Goals.{then-is_dirty, else-is_dirty}
 
@@ -30,7 +31,8 @@ loop-place-preserved c =
           let placed : CrashChoice → List ℕ = λ choice. put_mid (p * size) size bytes (remains_of choice (slice_chunk bytes size p)) in
           let bytes_are = w.bytes-is ∙ w.apply_at.ensures ∙ ap placed w.of.ensures in
           let left_is = ap (λ n. remains_of (choice_of pick n) (slice_chunk bytes size p)) c.loop-place.invariant.unit in
-          let more = chosen_more dirty c.args.first pick size p c.args.bytes.now bytes left (omega arith) w.if-is_dirty.true (omega arith) left_is was in
+          let more = chosen_more dirty c.args.first pick size p c.args.bytes.now bytes left (omega arith) w.if-is_dirty.true (omega arith)
+          left_is was in
           record {
             unit = omega (arith, w.unit-is, c.loop-place.invariant.unit, dirty_count_yes (flag_at dirty) p w.if-is_dirty.true);
             bound = omega (arith, w.unit-is, c.loop-place.invariant.bound);

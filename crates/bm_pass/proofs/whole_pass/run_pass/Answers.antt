@@ -4,7 +4,8 @@ use Rattle.bm_rack.proofs.CallLemmas.{MovesRows-refl, MovesRows-next, MovesRows-
 use Rattle.bm_rack.proofs.FrameLemmas.{Keeps-trans, ChangesOnly-trans, ChangesOnly-wider}
 use Rattle.bm_stripe.specs.Units.{IsAreaUnit}
 use Rattle.bm_pass.specs.LoadMove.{IsTargetUnit}
-use Rattle.bm_pass.proofs.PassLemmas.{IsTargetUnit-area, source_stays, LoadsMoved-more, LoadsMoved-none, LoadsMoved-all, rows_within, rows_of_pass}
+use Rattle.bm_pass.proofs.PassLemmas.{IsTargetUnit-area, source_stays, LoadsMoved-more, LoadsMoved-none, LoadsMoved-all, rows_within}
+use Rattle.bm_pass.proofs.PassLemmas.{rows_of_pass}
 use Rattle.bm_pass.proofs.whole_pass.run_pass.Goals as goal
 
 pub loop-load-init : goal.loop-load-init

@@ -51,8 +51,10 @@ tile_map-inner-requires-clause-start c =
     let low = c.args.low in
     let outer = c.outer_placing-outer.result in
     let home = c.mul-home.result in
-    let up : outer.plus < 2 ^ p.a.n = subst (λ k. outer.plus < 2 ^ k) c.outer_placing-outer.ensures.size c.outer_placing-outer.ensures.plus in
-    tile_start home c.tile_basis.result low (low + c.rank_of.result) p.plus outer.plus c.apply.result (omega arith) c.tile_basis.ensures.lows
+    let up : outer.plus < 2 ^ p.a.n = subst (λ k. outer.plus < 2 ^ k) c.outer_placing-outer.ensures.size c.outer_placing-outer.ensures.plus
+    in
+    tile_start home c.tile_basis.result low (low + c.rank_of.result) p.plus outer.plus c.apply.result (omega arith)
+    c.tile_basis.ensures.lows
     (tile_map-inner-requires-clause-moves c p.plus (subst (λ k. p.plus < 2 ^ k) (sym c.mul-rest.ensures.size) c.requires.plus))
     (ap (image home) c.apply.ensures.value
     ∙ tile_map-inner-requires-clause-home c outer.plus (subst (λ k. outer.plus < 2 ^ k) (sym c.mul-rest.ensures.size) up))

@@ -21,6 +21,7 @@ pub returns-clause-images : goal.returns-clause-images
 returns-clause-images c =
     let a = c.args.a.now in
     let few : a.n ≤ 52 = a.few in
-    images_in_tile a c.run_map.result c.args.low c.run_vectors-vectors.result c.independent_ones.result c.requires (omega arith) (omega arith)
+    images_in_tile a c.run_map.result c.args.low c.run_vectors-vectors.result c.independent_ones.result c.requires (omega arith)
+    (omega arith)
     (omega arith) c.run_map.ensures.size c.run_map.ensures.columns c.run_vectors-vectors.ensures.cut
     (c.independent_ones.ensures.bases c.args.low (omega (arith, c.requires)))

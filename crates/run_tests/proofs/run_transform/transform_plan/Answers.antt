@@ -23,5 +23,6 @@ returns c =
           c.in-Ok.ensures.stands (omega (arith, c.len.ensures.count, c.if-len-ne2.false)) c.at-plain.ensures.form c.at-second.ensures.form
           c.in-Ok.ensures.low refl refl r.size r.nonsingular rot
           (c.has_pushed-2.ensures.shape ∙ c.has_pushed.ensures.shape ∙ c.empty-plan.ensures.shape)
-          (c.if-not-has_pushed-2.ensures.pushed refl ∙ ap more (c.if-not-has_pushed.ensures.pushed refl ∙ ap more c.empty-plan.ensures.none));
+          (c.if-not-has_pushed-2.ensures.pushed refl
+          ∙ ap more (c.if-not-has_pushed.ensures.pushed refl ∙ ap more c.empty-plan.ensures.none));
     }

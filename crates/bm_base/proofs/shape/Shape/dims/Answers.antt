@@ -18,7 +18,8 @@ overflow_shl-result-2 c =
 pub overflow_mul-result-2 : goal.overflow_mul-result-2
 overflow_mul-result-2 c =
     let s = c.args.self.now in
-    let e : 1 * 2 ^ s.b % 2 ^ 32 ≡ 2 ^ s.b = one_shl s.b 32 (omega (arith, load_bits s.m s.width s.keeps.record_some s.keeps.load, s.keeps.block)) in
+    let e : 1 * 2 ^ s.b % 2 ^ 32 ≡ 2 ^ s.b = one_shl s.b 32
+    (omega (arith, load_bits s.m s.width s.keeps.record_some s.keeps.load, s.keeps.block)) in
     let less = block_fits s.b s.m s.width s.keeps.block s.keeps.load in
     rw (e, c.from.ensures) (omega arith)
 
@@ -26,5 +27,6 @@ pub returns : goal.returns
 returns c =
     let s = c.args.self.now in
     let d : 1 * 2 ^ s.d % 2 ^ 32 ≡ 2 ^ s.d = one_shl s.d 32 (omega (arith, s.keeps.disks)) in
-    let b : 1 * 2 ^ s.b % 2 ^ 32 ≡ 2 ^ s.b = one_shl s.b 32 (omega (arith, load_bits s.m s.width s.keeps.record_some s.keeps.load, s.keeps.block)) in
+    let b : 1 * 2 ^ s.b % 2 ^ 32 ≡ 2 ^ s.b = one_shl s.b 32
+    (omega (arith, load_bits s.m s.width s.keeps.record_some s.keeps.load, s.keeps.block)) in
     rw (d, b, c.stripes.ensures, c.from.ensures) refl

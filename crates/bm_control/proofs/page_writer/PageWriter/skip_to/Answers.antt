@@ -8,13 +8,15 @@ pub invariant_of-self : goal.invariant_of-self
 invariant_of-self c =
     let long = length-take-le c.self.inside.len c.self.inside.bytes (omega (arith, c.self.invariant.size, c.self.invariant.within)) in
     let seen = ap length c.self.view_is in
-    front_skip c.self.inside.len c.args.place c.self.inside.bytes c.self.invariant (omega (arith, long, seen, c.requires.before)) c.requires.within
+    front_skip c.self.inside.len c.args.place c.self.inside.bytes c.self.invariant (omega (arith, long, seen, c.requires.before))
+    c.requires.within
 
 pub returns-clause-bytes : goal.returns-clause-bytes
 returns-clause-bytes c =
     let long = length-take-le c.self.inside.len c.self.inside.bytes (omega (arith, c.self.invariant.size, c.self.invariant.within)) in
     let seen = ap length c.self.view_is in
-    skipped c.self.inside.len c.args.place c.self.inside.bytes c.self.invariant (omega (arith, long, seen, c.requires.before)) c.requires.within
+    skipped c.self.inside.len c.args.place c.self.inside.bytes c.self.invariant (omega (arith, long, seen, c.requires.before))
+    c.requires.within
     ∙ ap (padded c.args.place) c.self.view_is
 
 pub returns-clause-length : goal.returns-clause-length
