@@ -1,5 +1,5 @@
 -- A text means one job file alone.
-use Rattle.std.proofs.Common.{◌≡◌, ℕ, ◌*◌, ◌+◌, ◌-◌, ◌/◌, ◌%◌, ◌^◌, ◌<◌, ◌≤◌, List, length, bit_xor, Some, Ok}
+use Rattle.std.proofs.Common.{◌≡◌, ℕ, ◌*◌, ◌+◌, ◌-◌, ◌/◌, ◌%◌, ◌^◌, ◌<◌, ◌≤◌, List, bit_xor, Some, Ok}
 use Rattle.std.proofs.Common.{sym, ap, subst, ◌∙◌, arith, refl, inl, inr, ⊎_elim}
 use Rattle.std.proofs.lemmas.List.{ext_get_or}
 use Rattle.std.proofs.lemmas.Bool.{cases_lt}
@@ -44,10 +44,9 @@ unit_inside : (n j : ℕ) → j < n → 2 ^ j < 2 ^ n
 unit_inside n j inside = pow-lt inside
 
 -- two affine maps of n bits with one image at each address are equal
-affine_once : (f g : Affine) → f.a.n ≡ g.a.n → length f.a.cols ≡ length g.a.cols
-    → ((x : ℕ) → x < 2 ^ f.a.n → affine_image f x ≡ affine_image g x) → f ≡ g
-affine_once f g n long same =
-    affine_equal f g (matrix_equal f.a g.a n (ext_get_or 0 f.a.cols g.a.cols long (λ j inside. columns j))) constant
+affine_once : (f g : Affine) → f.a.n ≡ g.a.n → ((x : ℕ) → x < 2 ^ f.a.n → affine_image f x ≡ affine_image g x) → f ≡ g
+affine_once f g n same =
+    affine_equal f g (matrix_equal f.a g.a n (ext_get_or 0 f.a.cols g.a.cols (f.a.long ∙ sym g.a.long) (λ j inside. columns j))) constant
   where
     constant : f.c ≡ g.c
     constant = sym (image_of_zero f) ∙ same 0 (pow_pos f.a.n) ∙ image_of_zero g
@@ -101,7 +100,7 @@ value_below n c f size below x =
 permute_once : (n : ℕ) (named : NamedMap) (c : ℕ) (f g : Affine) → NamedIsFaultless n named → c < 2 ^ n
     → IsPermuteOf n named c f → IsPermuteOf n named c g → f ≡ g
 permute_once n named c f g ok below p q =
-    affine_once f g (p.size ∙ sym q.size) (p.columns ∙ sym q.columns)
+    affine_once f g (p.size ∙ sym q.size)
     (λ x inside.
     let both = named_once n named (λ x. bit_xor (affine_image f x) c) (λ x. bit_xor (affine_image g x) c) ok p.value q.value
     (value_below n c f p.size below) (value_below n c g q.size below) x (subst (λ (k : ℕ). x < 2 ^ k) p.size inside) in

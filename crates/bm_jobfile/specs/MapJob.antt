@@ -1,5 +1,5 @@
 -- The job that a text's map stands for, and the first fault of the map.
-use Rattle.std.specs.Prelude.{ℕ, ◌≡◌, ◌≢◌, ◌⊎◌, ◌+◌, ◌-◌, ◌*◌, ◌/◌, ◌%◌, ◌^◌, ◌<◌, ◌≤◌, length, slice_index, bit_xor}
+use Rattle.std.specs.Prelude.{ℕ, ◌≡◌, ◌≢◌, ◌⊎◌, ◌+◌, ◌-◌, ◌*◌, ◌/◌, ◌%◌, ◌^◌, ◌<◌, ◌≤◌, slice_index, bit_xor}
 use Rattle.std.specs.Int.{bit_at}
 use Rattle.bm_base.specs.declared.shape.Shape.{Shape}
 use Rattle.bm_gf2.specs.declared.affine.Affine.{Affine}
@@ -57,11 +57,9 @@ MapFaultIs s (Permute named complement) e =
 abbrev pub MapIsFaultless : Shape → MapText → Type 0
 MapIsFaultless s text = (e : MapFault) → ¬ MapFaultIs s text e
 
--- A nonsingular map of n bits, of 52 columns as every matrix has (0 from column n on): the named one followed by XOR with the
--- complement. So XOR with it gives the named one again.
+-- A nonsingular map of n bits: the named one followed by XOR with the complement. So XOR with it gives the named one again.
 pub record IsPermuteOf (n : ℕ) (named : NamedMap) (complement : ℕ) (map : Affine) : Type 0 where
   pub size : map.a.n ≡ n
-  pub columns : length map.a.cols ≡ 52
   pub nonsingular : IsNonsingular map.a
   pub value : IsNamedMap n named (λ x. bit_xor (affine_image map x) complement)
 
