@@ -38,8 +38,7 @@ OpenAnswer s job v (Err OtherJob) =
     (state : SlateState) × StateAnswer v (Ok state) × IsLoadedState s state × ((other : Job) × IsOpenState other state × (other ≢ job))
 
 -- The numbers keep their ranges, on every rack, told or not: 1 to Q passes, no more done than there are, and fewer loads counted than a
--- pass
--- has.
+-- pass has.
 pub record OpenFits (s : Shape) (job : Job) (o : OpenJob) : Type 0 where
   pub body : JobBodyFits s job o.passes o.every
   pub done_few : o.done ≤ o.passes

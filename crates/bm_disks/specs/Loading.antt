@@ -51,8 +51,7 @@ pub record HasLoadOf (old : RackView) (image : Contents) : Type 0 where
   pub body : old.dirty (page_unit load_body) ≡ false → page_at image load_body ≡ page_at old.contents load_body
 
 -- Where an image has the load gate open, it holds the N records of an input that held just these; or it has the load of before, and the
--- load
--- gate was open in some image then too.
+-- load gate was open in some image then too.
 abbrev pub OpensWhole : Shape → List ℕ → RackView → Contents → Type 0
 OpensWhole s bytes old image = HasOpenLoad image
     → ((length bytes ≡ input_size s) × HoldsInput s bytes image) ⊎ (HasLoadOf old image × (¬ InEveryImage HasClosedLoad old))

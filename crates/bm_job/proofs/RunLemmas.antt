@@ -89,7 +89,7 @@ on_way_start told_stands told_contents m v well alive =
     }
 
 -- both are of the same job as the first
-same_job_then : (a b c : Machine) → SameJob a b → SameJob b c → SameJob a c
+pub same_job_then : (a b c : Machine) → SameJob a b → SameJob b c → SameJob a c
 same_job_then a b c x y = record { shape = y.shape ∙ x.shape; job = y.job ∙ x.job; passes = y.passes ∙ x.passes; every = y.every ∙ x.every }
 
 -- the rows of one load more

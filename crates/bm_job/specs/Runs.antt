@@ -116,8 +116,7 @@ pub record ReportFits (s : Shape) (job : Job) (r : RunReport) : Type 0 where
   pub moves : r.moves ≡ load_rows s (r.passes * loads_of s - loads_before s r)
 
 -- What a report says of the contents at entry, on which a job is run with such a plan and number of loads: it was loaded and no job was
--- open,
--- or this job was open with this progress.
+-- open, or this job was open with this progress.
 abbrev pub IsReportOf : Shape → Job → ℕ → Contents → RunReport → Type 0
 IsReportOf s job passes v r =
     (StateAnswer v (Ok (Loaded s)) × (r.passes ≡ passes) × (r.done_before ≡ 0) × (r.part_before ≡ 0))
@@ -156,8 +155,7 @@ pub record IsRunnable (s : Shape) (job : Job) (v : Contents) : Type 0 where
 -- ---- what stands after a run
 
 -- After a run that succeeded: the records are the job's meaning on the input, the input is as before, and the control file tells it.
--- Nothing
--- is dirty. Where no job was open the plan's passes were run, with the number of loads of the call; else the stored ones.
+-- Nothing is dirty. Where no job was open the plan's passes were run, with the number of loads of the call; else the stored ones.
 pub record RunDone (s : Shape) (job : Job) (passes every : ℕ) (r : RunReport) (old new : RackView) : Type 0 where
   pub records : SameRecords (2 ^ s.n) (record_at new.contents s (area_after r.passes)) (meaning s.n job (input_of old.contents s))
   pub input : SameRecords (2 ^ s.n) (input_of new.contents s) (input_of old.contents s)
