@@ -20,11 +20,11 @@ const LINE_BYTES: u64 = 64;
 // What a page of memory holds, in bytes.
 const PAGE_BYTES: u64 = 4096;
 
-// The bits of the most pages that records of a cache may go to at once, of less than 8 bytes and of
-// others.
-const MOST_STREAM_BITS_OF_NARROW: u8 = 4;
+// What the second cache keeps of lines that are still being filled, in bytes.
+const FILLED_BYTES: u64 = 131072;
 
-const MOST_STREAM_BITS: u8 = 5;
+// The bits of the most pages that records of a cache may go to at once.
+const MOST_STREAM_BITS: u8 = 4;
 
 // The bits of neighbours that may go to 2 pages at most, where the records of a cache go to more.
 const NEIGHBOUR_BITS: u8 = 5;
@@ -42,12 +42,17 @@ const LARGE_LOAD_OF_WIDE: u64 = 4194304;
 // Records above this many bytes fill lines of their own.
 const WIDEST: u16 = 256;
 
-// The least bytes of a run, and the most, for records of one byte and for others.
+// The least bytes of a run, and the most, for records of one byte, of up to 8 bytes and of more.
 const LEAST_RUN_BYTES: u64 = 32;
 
 const RUN_BYTES_AT_ONE: u64 = 512;
 
+const RUN_BYTES_OF_NARROW: u64 = 1024;
+
 const RUN_BYTES: u64 = 2048;
+
+// The most bytes of a tile: larger ones leave the first cache too often while they are filled.
+const TILE_BYTES: u64 = 65536;
 
 // The most bits, up to a number, for which 2^bits records take no more than so many bytes.
 fn most_bits(bytes: u64, width: u16, most: u8) -> u8
@@ -62,29 +67,25 @@ fn most_bits(bytes: u64, width: u16, most: u8) -> u8
     0
 }
 
-// Whether those records that a cache holds fill the units that they go to. A unit is a line, or 8
-// records where these are more.
+// Whether records that are still in the caches fill the units that they go to. A unit is a line, or
+// 8 records where these are more.
 fn fills_lines(placing: &Placing) -> bool {
     let n = placing.a.n;
-    let cached = most_bits(CACHE_BYTES, placing.width, n);
+    let filled = most_bits(FILLED_BYTES, placing.width, n);
     let bytes = LINE_BYTES.max(8 * u64::from(placing.width));
     let unit = most_bits(bytes, placing.width, n);
-    rank_of(&placing.a, unit, cached) + unit <= cached
+    rank_of(&placing.a, unit, filled) + unit <= filled
 }
 
-// Whether those records go to few pages, or leave a page seldom. Lines at powers of two share the
-// sets of a cache, so with more streams a line leaves the cache before it is full.
+// Whether the records that the first cache holds go to few pages, or leave a page seldom. Lines at
+// powers of two share the sets of a cache, so with more streams a line leaves the cache before it
+// is full.
 fn has_few_streams(placing: &Placing) -> bool {
     let n = placing.a.n;
     let cached = most_bits(CACHE_BYTES, placing.width, n);
     let page = most_bits(PAGE_BYTES, placing.width, n);
-    let most = if placing.width < 8 {
-        MOST_STREAM_BITS_OF_NARROW
-    } else {
-        MOST_STREAM_BITS
-    };
     let neighbours = NEIGHBOUR_BITS.min(n);
-    rank_of(&placing.a, page, cached) <= most
+    rank_of(&placing.a, page, cached) <= MOST_STREAM_BITS
         || rank_of(&placing.a, page, neighbours) <= MOST_NEIGHBOUR_STREAM_BITS
 }
 
@@ -97,10 +98,10 @@ fn is_local(placing: &Placing) -> bool {
 fn is_run(width: u16, low: u8) -> bool
     requires { low ≤ 52 }
 {
-    let most = if width == 1 {
-        RUN_BYTES_AT_ONE
-    } else {
-        RUN_BYTES
+    let most = match width {
+        1 => RUN_BYTES_AT_ONE,
+        2..=8 => RUN_BYTES_OF_NARROW,
+        _ => RUN_BYTES,
     };
     let bytes = u64::from(width).saturating_mul(1 << low);
     low >= 3 && bytes >= LEAST_RUN_BYTES && bytes <= most
@@ -116,13 +117,14 @@ fn is_large(placing: &Placing) -> bool {
     u64::from(placing.width).saturating_mul(1 << placing.a.n) >= least
 }
 
-// The split by the longest runs that are worth it and whose tiles fit the room.
+// The split by the longest runs that are worth it and whose tiles fit the room and the cache.
 fn longest_split(placing: &Placing, room: u8) -> Option<Split>
     requires { placing.now.plus < 2 ^ placing.now.a.n }
     ensures split { IfSome result (IsSplit placing.now room) }
     ensures tile { IfSome result (λ s.
         s.inner.tile ≡ s.inner.low + rank_of_rows placing.now.a.cols s.inner.low s.inner.low) }
 {
+    let room = room.min(most_bits(TILE_BYTES, placing.width, placing.a.n));
     for low in (3..placing.a.n).rev() {
         if is_run(placing.width, low) {
             let split = split_placing(placing, low, room);
@@ -139,7 +141,8 @@ fn longest_split(placing: &Placing, room: u8) -> Option<Split>
 /// one that caches hold, and where no tile of at most 2^room records serves.
 ///
 /// Of the runs that serve it takes the longest. A run has at least 8 records and 32 bytes, and at
-/// most 2 KiB, or 512 bytes of records of one byte.
+/// most 2 KiB: 1 KiB of records of up to 8 bytes, and 512 bytes of records of one. A tile has at
+/// most 64 KiB.
 pub fn best_split(placing: &Placing, room: u8) -> Option<Split>
     requires { placing.now.plus < 2 ^ placing.now.a.n }
     ensures split { IfSome result (IsSplit placing.now room) }
