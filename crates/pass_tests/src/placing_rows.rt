@@ -201,24 +201,25 @@ fn choices_of_steps(rt: HostRuntime) -> Result<(), Fail> {
             0, 11, 1, 12, 2, 13, 3, 14, 4, 15, 5, 16, 6, 17, 7, 18, 8, 19, 9, 20, 10,
         ],
     )?;
-    let rows: [(Affine, u16, u8, Option<(u8, u8)>); 29] = [
-        // Runs of 2 KiB have 2^8 records, and tiles of 2^16.
-        (bit_reversal(18), 8, 16, Some((8, 16))),
+    let rows: [(Affine, u16, u8, Option<(u8, u8)>); 30] = [
+        // A tile of 64 KiB has 2^13 records, also where there is room for more.
+        (bit_reversal(18), 8, 16, Some((6, 12))),
         (bit_reversal(18), 8, 13, Some((6, 12))),
         (transpose(18, 8), 8, 13, Some((6, 12))),
-        // The records of 32 KiB fill the lines that they go to, but these are in 2^9 pages.
+        // The records of 128 KiB fill the lines that they go to, but those of 32 KiB are in 2^9 pages.
         (transpose(18, 9), 8, 13, Some((6, 12))),
-        // .. in 2^5 pages, and in 2^6; with 4 bytes in 2^4, and in 2^5.
-        (transpose(18, 13), 8, 13, None),
+        // .. in 2^4 pages, in 2^5 and in 2^6; with 4 bytes in 2^4, and in 2^5. A run has 1 KiB at most.
+        (transpose(18, 14), 8, 13, None),
+        (transpose(18, 13), 8, 13, Some((7, 12))),
         (transpose(18, 12), 8, 13, Some((7, 13))),
         (transpose(18, 14), 4, 13, None),
         (transpose(18, 13), 4, 13, Some((8, 13))),
         // A run has at least 2^3 records, so a tile has at least 2^6.
         (bit_reversal(18), 8, 6, Some((3, 6))),
         (bit_reversal(18), 8, 5, None),
-        // One bit leaves the line for another line of the 2^12 records of 32 KiB, or for afar.
+        // One bit leaves the line for another line of the 2^14 records of 128 KiB, or for afar.
         (near, 8, 13, None),
-        (far, 8, 13, Some((8, 9))),
+        (far, 8, 13, Some((7, 8))),
         // 32 KiB go to 2^6 pages, but each 32 neighbours stay in one.
         (interleaved, 8, 13, None),
         // Local maps.
@@ -229,16 +230,16 @@ fn choices_of_steps(rt: HostRuntime) -> Result<(), Fail> {
         (bit_reversal(17), 8, 13, Some((6, 12))),
         (bit_reversal(17), 7, 13, None),
         // 2 MiB of records of less than 32 bytes, 4 MiB of wider ones, and less.
-        (bit_reversal(16), 31, 13, Some((6, 12))),
-        (bit_reversal(17), 32, 13, Some((6, 12))),
+        (bit_reversal(16), 31, 13, Some((5, 10))),
+        (bit_reversal(17), 32, 13, Some((5, 10))),
         (bit_reversal(16), 32, 13, None),
         // A unit has 2^3 records of more than 8 bytes.
         (bit_reversal(18), 33, 13, Some((5, 10))),
         (gray(18), 64, 13, None),
         (bit_reversal(18), 256, 13, Some((3, 6))),
         (bit_reversal(18), 257, 13, None),
-        // Runs of 512 bytes of records of one byte, and none of less than 32.
-        (bit_reversal(21), 1, 20, Some((9, 18))),
+        // Tiles of 64 KiB of records of one byte, and no runs of less than 32 bytes.
+        (bit_reversal(21), 1, 20, Some((8, 16))),
         (bit_reversal(21), 1, 12, Some((6, 12))),
         (bit_reversal(21), 1, 11, Some((5, 10))),
         (bit_reversal(21), 1, 9, None),
