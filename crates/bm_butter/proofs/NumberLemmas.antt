@@ -55,7 +55,7 @@ number_below n i w t inside short below =
     (subst (λ c. w < c) blocks.0 short)))
 
 -- the same place, the same number
-same_number : (a : Matrix) (plus x y : ℕ) → IsNonsingular a → x < 2 ^ a.n → y < 2 ^ a.n → place a plus x ≡ place a plus y → x ≡ y
+pub same_number : (a : Matrix) (plus x y : ℕ) → IsNonsingular a → x < 2 ^ a.n → y < 2 ^ a.n → place a plus x ≡ place a plus y → x ≡ y
 same_number a plus x y nonsingular short_x short_y same =
     ⊎_elim (λ (p : x ≡ y). p) (λ (p : x ≢ y). absurd (images_apart a plus x y nonsingular short_x short_y p same)) (cases_eq x y)
 
