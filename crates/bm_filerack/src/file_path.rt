@@ -2,7 +2,7 @@
 
 ghost use Rattle.std.specs.Prelude.{◌≡◌, ◌+◌, ◌<◌, ◌≤◌, ◌++◌, codes, IfOk};
 ghost use Rattle.std.specs.String.{string_bytes, string_len, string_capacity};
-ghost use Rattle.bm_filerack.specs.FileNames.{disk_name};
+ghost use Rattle.bm_filerack.specs.FileNames.{disk_name, bay_front};
 
 use std::alloc::{AllocError, Global};
 
@@ -57,6 +57,28 @@ impl FilePath {
         let _ = self.path.push(digit(disk / 10));
         let _ = self.path.push(digit(disk % 10));
     }
+}
+
+/// What the paths of the files in a folder begin with.
+pub fn front_in(alloc: Global, folder: &str) -> Result<String, AllocError>
+    ensures { IfOk result (λ front. string_bytes front ≡ folder.now ++ codes "/bmmc-") }
+{
+    let mut front = String::from_str(alloc, folder)?;
+    front.push_str("/bmmc-")?;
+    Ok(front)
+}
+
+/// What the paths of a bay's files begin with.
+pub fn bay_front(alloc: Global, number: u16) -> Result<String, AllocError>
+    requires { number < 100 }
+    ensures { IfOk result (λ front. string_bytes front ≡ bay_front number) }
+{
+    let number = u32::from(number);
+    let mut front = String::from_str(alloc, "bmmc-bay-")?;
+    front.push(digit(number / 10))?;
+    front.push(digit(number % 10))?;
+    front.push('-')?;
+    Ok(front)
 }
 
 // A decimal digit.

@@ -1,13 +1,15 @@
 //! A rack over files.
 
-ghost use Rattle.std.specs.Prelude.{◌≡◌, ◌^◌, ◌<◌, ◌≤◌, ◌↔◌, false, None, codes, IfOk, option_map, IsTrue, IsOk, IsErr};
+ghost use Rattle.std.specs.Prelude.{◌≡◌, ◌^◌, ◌<◌, ◌≤◌, ◌↔◌, ◌++◌, false, None, codes, IfOk, option_map, IsTrue, IsOk, IsErr};
 ghost use Rattle.std.specs.String.{string_bytes};
 ghost use Rattle.bm_base.specs.Count.{Rose};
+ghost use Rattle.bm_filerack.specs.FileNames.{bay_front};
 
 use crate::disk_files::DiskFiles;
 use crate::fault_count::{count_fault, fault};
 use crate::file_error::FileError;
 use crate::file_lock::LockFile;
+use crate::file_path::{bay_front, front_in};
 use crate::folder::Folder;
 use bm_base::{Dims, Failed, OutOfMemory};
 use bm_rack::{AttachError, CreateError, Found, Rack};
@@ -46,6 +48,42 @@ impl<'a, F: Files> FileRack<'a, F> {
             (rack.faults ≡ 0) × (rack.moves ≡ 0) × (rack.pages ≡ 0) × (rack.syncs ≡ 0)) }
     {
         match Folder::new(rt, alloc, ".", "bmmc-") {
+            Ok(folder) => Ok(FileRack::over(folder)),
+            Err(_) => Err(OutOfMemory),
+        }
+    }
+
+    /// The rack of this folder, which has to be there, with nothing attached.
+    pub fn at(rt: &'a F, alloc: Global, folder: &str) -> Result<FileRack<'a, F>, OutOfMemory>
+        ensures folder { IfOk result (λ rack. string_bytes rack.folder.folder ≡ folder.now) }
+        ensures front { IfOk result (λ rack. string_bytes rack.folder.path.front ≡ folder.now ++ codes "/bmmc-") }
+        ensures attached { IfOk result (λ rack. rack.files ≡ None) }
+        ensures counts { IfOk result (λ rack.
+            (rack.faults ≡ 0) × (rack.moves ≡ 0) × (rack.pages ≡ 0) × (rack.syncs ≡ 0)) }
+    {
+        let Ok(front) = front_in(alloc, folder) else {
+            return Err(OutOfMemory);
+        };
+        match Folder::new(rt, alloc, folder, front.as_str()) {
+            Ok(folder) => Ok(FileRack::over(folder)),
+            Err(_) => Err(OutOfMemory),
+        }
+    }
+
+    /// The rack of a bay of several jobs, below 64, in the current folder, with nothing attached. Its
+    /// files' names begin with `bmmc-bay-nn-`, where nn is the bay in two decimal digits.
+    pub fn bay(rt: &'a F, alloc: Global, number: u16) -> Result<FileRack<'a, F>, OutOfMemory>
+        requires { number < 64 }
+        ensures folder { IfOk result (λ rack. string_bytes rack.folder.folder ≡ codes ".") }
+        ensures front { IfOk result (λ rack. string_bytes rack.folder.path.front ≡ bay_front number) }
+        ensures attached { IfOk result (λ rack. rack.files ≡ None) }
+        ensures counts { IfOk result (λ rack.
+            (rack.faults ≡ 0) × (rack.moves ≡ 0) × (rack.pages ≡ 0) × (rack.syncs ≡ 0)) }
+    {
+        let Ok(front) = bay_front(alloc, number) else {
+            return Err(OutOfMemory);
+        };
+        match Folder::new(rt, alloc, ".", front.as_str()) {
             Ok(folder) => Ok(FileRack::over(folder)),
             Err(_) => Err(OutOfMemory),
         }

@@ -7,6 +7,8 @@ mod folders;
 #[cfg(test)]
 mod racks;
 #[cfg(test)]
+mod several_racks;
+#[cfg(test)]
 mod streams;
 #[cfg(test)]
 mod watched_racks;
