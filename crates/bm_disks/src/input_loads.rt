@@ -16,8 +16,9 @@ use bm_base::{Area, Shape};
 use bm_rack::{Rack, Source};
 use bm_stripe::write_load;
 
-// Moves N records from the source to the area of the input, through a buffer of one load.
-fn read_loads<R: Rack, S: Source>(
+/// Moves N records from the source to the area of the input, through a buffer of one load. No byte
+/// after them is asked for, and no gate is touched.
+pub fn read_loads<R: Rack, S: Source>(
     rack: &mut R,
     shape: &Shape,
     input: &mut S,

@@ -14,6 +14,8 @@ mod source_bytes;
 
 pub use dropping::{DropError, drop_job};
 pub use dumping::{DumpError, dump_records};
+pub use gate_closing::shut_gates;
+pub use input_loads::read_loads;
 pub use job_opening::{OpenError, OpenJob, open_job};
 pub use load_error::LoadError;
 pub use loading::load_records;

@@ -16,7 +16,7 @@ use Rattle.bm_top.specs.TopCall.{TaskCall, NoFaults, IsDoneUnlessMemory, may_of,
 use Rattle.bm_top.specs.commands.Run.{NoSession}
 use Rattle.bm_top.specs.declared.task.Task.{Task}
 use Rattle.bm_top.specs.declared.words.Verb.{Verb}
-use Rattle.bm_top.specs.declared.words.Verb.TheVariants.{New, Load, Plan, Run, Status, Dump, Drop, Carry}
+use Rattle.bm_top.specs.declared.words.Verb.TheVariants.{New, Load, Plan, Run, Status, Dump, Drop, Detect, Carry, Drill}
 use Rattle.bm_top.specs.declared.status.Status.TheVariants.{Done, RackFault, SinkFault}
 use Rattle.bm_top.proofs.ExitLemmas.{KeepsUnits-same, SameInput-same, MovesFew-same, CallsFew-same, CallsGrow-same, IsRead-none}
 use Rattle.bm_top.proofs.SameDisksLemmas.{sound_kept, calls_kept}
@@ -57,7 +57,13 @@ may_attach told dims old Drop disks.OutOfMemory attaches why = tt
 may_attach told dims old Drop disks.Exists attaches why = absurd why
 may_attach told dims old Drop disks.NoDisks attaches why = tt
 may_attach told dims old Drop disks.WrongDims attaches why = tt
+may_attach told dims old Detect disks.RackFault attaches why = tt
+may_attach told dims old Detect disks.OutOfMemory attaches why = tt
+may_attach told dims old Detect disks.Exists attaches why = absurd why
+may_attach told dims old Detect disks.NoDisks attaches why = tt
+may_attach told dims old Detect disks.WrongDims attaches why = tt
 may_attach told dims old Carry e attaches why = absurd attaches
+may_attach told dims old Drill e attaches why = absurd attaches
 
 -- the answers are none of the input, the control file or the output
 no_input : (e : DisksError) → ¬ IsOfInput (disks_status e)
@@ -97,7 +103,9 @@ case_stands t Run task old attaches is = (is.told.0, is.stands)
 case_stands t Status task old attaches is = (is.told.0, is.stands)
 case_stands t Dump task old attaches is = (is.told.0, is.stands)
 case_stands t Drop task old attaches is = (is.stands_told, is.stands)
+case_stands t Detect task old attaches is = (is.told.0, is.stands)
 case_stands t Carry task old attaches is = absurd attaches
+case_stands t Drill task old attaches is = absurd attaches
 
 cause_attach : (t : Tells) (verb : Verb) (task : Task) (d : Devices) (old new : RackView) (e : DisksError) → Attaches verb
     → AttachRefusal t.stands (dims_of task.shape) old e → (e ≡ disks.RackFault → Rose old.faults new.faults)
@@ -137,6 +145,7 @@ leaves_attach : (t : Tells) (verb : Verb) (task : Task) (d : Devices) (old new :
 leaves_attach t New task d old new e well attaches from = absurd attaches
 leaves_attach t Plan task d old new e well attaches from = absurd attaches
 leaves_attach t Carry task d old new e well attaches from = absurd attaches
+leaves_attach t Drill task d old new e well attaches from = absurd attaches
 leaves_attach t Load task d old new e well attaches from = record {
   opened = λ told input sound. opens_same task.shape d.input.left old new from.disks sound;
   refused = λ told of. absurd (no_input e of);
@@ -185,6 +194,15 @@ leaves_attach t Drop task d old new e well attaches from = record {
   moves = from.calls.moves;
   input = refl;
   out = refl;
+}
+leaves_attach t Detect task d old new e well attaches from = record {
+  looks = record { contents = from.disks.contents; units = KeepsUnits-same _ old new from.disks };
+  same = SameInput-same _ old new from.disks;
+  moves = MovesFew-same t.stands t.contents _ old new well from.calls.moves;
+  still = λ of. from.calls.moves;
+  cut = λ is. absurd (no_sink e is);
+  unwritten = inr (inr refl);
+  input = refl;
 }
 
 -- the exit of any command that attaches, where it can't

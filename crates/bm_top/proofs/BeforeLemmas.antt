@@ -34,11 +34,13 @@ has_disks t verb task d before mid attaches same well attached told =
     goes verbs.New attaches e = absurd attaches
     goes verbs.Carry attaches e = absurd attaches
     goes verbs.Plan attaches e = absurd attaches
+    goes verbs.Drill attaches e = absurd attaches
     goes verbs.Load attaches e = e
     goes verbs.Run attaches e = e
     goes verbs.Status attaches e = e
     goes verbs.Dump attaches e = e
     goes verbs.Drop attaches e = e
+    goes verbs.Detect attaches e = e
 
 pub input_before : (dims : Dims) (before mid new : RackView) → SameDisks before mid → SameInput dims mid new → SameInput dims before new
 input_before dims before mid new same x = record {

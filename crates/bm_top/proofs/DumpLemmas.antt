@@ -46,7 +46,8 @@ use Rattle.bm_top.proofs.SameDisksLemmas.{sound_kept}
 use Rattle.bm_top.proofs.StatusLemmas.{no_fault}
 
 -- no row call was made
-few_none : (ts tc : Bool) (rows : ℕ) (before mid new : RackView) → IsWellFormed ts tc mid → AttachedFrom before mid → new.moves ≡ mid.moves
+pub few_none : (ts tc : Bool) (rows : ℕ) (before mid new : RackView) → IsWellFormed ts tc mid → AttachedFrom before mid
+    → new.moves ≡ mid.moves
     → MovesFew rows before new
 few_none ts tc rows before mid new well from same =
     let e = from.calls.moves in

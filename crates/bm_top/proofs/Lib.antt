@@ -1,4 +1,5 @@
 pub mod WordsLemmas
+pub mod JobCauseLemmas
 pub mod JobReadLemmas
 pub mod TopCallLemmas
 pub mod ExitLemmas
@@ -22,5 +23,8 @@ pub mod DropLemmas
 pub mod LookLemmas
 pub mod StatusLemmas
 pub mod DumpLemmas
+pub mod SeenLemmas
+pub mod DetectLemmas
+pub mod DrillLemmas
 pub mod OpensLemmas
 pub mod LoadLemmas

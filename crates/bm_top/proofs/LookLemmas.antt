@@ -1,5 +1,5 @@
 -- Commands that look at the open job.
-use Rattle.std.proofs.Common.{Ok, Err, ◌≡◌, ◌≢◌, inl, inr, ⊎_elim, ℕ, ◌≤◌, IsTrue, Result, IsOk, IfOk, refl, sym, ap, subst, ◌∙◌, arith}
+use Rattle.std.proofs.Common.{Ok, Err, ◌≡◌, ◌≢◌, inl, ℕ, ◌≤◌, IsTrue, Result, IsOk, IfOk, refl, sym, ap, subst, ◌∙◌, arith}
 use Rattle.bm_base.specs.Contents.{Contents}
 use Rattle.bm_base.specs.Count.{Rose}
 use Rattle.bm_base.specs.Shape.{dims_of}
@@ -107,10 +107,11 @@ bad_page t task before mid new page from j told = record {
   same = record { contents = j.contents ∙ from.disks.contents; moves = j.counts.moves ∙ from.calls.moves };
 }
 
--- the commands that look at the open job
+-- the commands that look at what is loaded and open
 abbrev pub Looks : Verb → Type 0
 Looks verbs.Status = Unit {0}
 Looks verbs.Dump = Unit {0}
+Looks verbs.Detect = Unit {0}
 Looks _ = ⊥
 
 -- why such a command is refused
@@ -124,6 +125,7 @@ look_cause t verbs.Plan task d e mid error is from stand j why = absurd is
 look_cause t verbs.Run task d e mid error is from stand j why = absurd is
 look_cause t verbs.Drop task d e mid error is from stand j why = absurd is
 look_cause t verbs.Carry task d e mid error is from stand j why = absurd is
+look_cause t verbs.Drill task d e mid error is from stand j why = absurd is
 look_cause t verbs.Status task d e mid opening.Failed is from stand j why = why.rose refl
 look_cause t verbs.Status task d e mid (opening.BadPage page) is from stand j why = (stand, bad_page t task d.rack mid e.rack page from j)
 look_cause t verbs.Status task d e mid opening.NotLoaded is from stand j why =
@@ -143,6 +145,16 @@ look_cause t verbs.Dump task d e mid opening.OtherShape is from stand j why =
 look_cause t verbs.Dump task d e mid opening.NoJob is from stand j why =
     (stand, λ told. told_before task d.rack mid opening.NoJob from (j.answer told))
 look_cause t verbs.Dump task d e mid opening.OtherJob is from stand j why =
+    (stand, λ told. other_job task d.rack.contents (told_before task d.rack mid opening.OtherJob from (j.answer told)))
+look_cause t verbs.Detect task d e mid opening.Failed is from stand j why = why.rose refl
+look_cause t verbs.Detect task d e mid (opening.BadPage page) is from stand j why = (stand, bad_page t task d.rack mid e.rack page from j)
+look_cause t verbs.Detect task d e mid opening.NotLoaded is from stand j why =
+    (stand, λ told. told_before task d.rack mid opening.NotLoaded from (j.answer told))
+look_cause t verbs.Detect task d e mid opening.OtherShape is from stand j why =
+    (stand, λ told. other_shape task d.rack.contents (told_before task d.rack mid opening.OtherShape from (j.answer told)))
+look_cause t verbs.Detect task d e mid opening.NoJob is from stand j why =
+    (stand, λ told. told_before task d.rack mid opening.NoJob from (j.answer told))
+look_cause t verbs.Detect task d e mid opening.OtherJob is from stand j why =
     (stand, λ told. other_job task d.rack.contents (told_before task d.rack mid opening.OtherJob from (j.answer told)))
 
 -- such a refusal is no other answer

@@ -6,7 +6,7 @@ use Rattle.bm_top.specs.commands.Run.{NoSession}
 use Rattle.bm_top.specs.TopCall.{TaskCall, may_of, leaves_of}
 use Rattle.bm_top.specs.declared.task.Task.{Task}
 use Rattle.bm_top.specs.declared.words.Verb.{Verb}
-use Rattle.bm_top.specs.declared.words.Verb.TheVariants.{New, Load, Plan, Run, Status, Dump, Drop, Carry}
+use Rattle.bm_top.specs.declared.words.Verb.TheVariants.{New, Load, Plan, Run, Status, Dump, Drop, Detect, Carry, Drill}
 use Rattle.bm_top.specs.declared.status.Status.TheVariants.{OutOfMemory}
 use Rattle.bm_top.proofs.ExitLemmas.{SameDisks-refl, SameCalls-refl, KeepsUnits-same, SameInput-same, MovesFew-same, CallsFew-same}
 use Rattle.bm_top.proofs.ExitLemmas.{AppendsFront-none, each_untouched}
@@ -21,7 +21,9 @@ may_memory Run = tt
 may_memory Status = tt
 may_memory Dump = tt
 may_memory Drop = tt
+may_memory Detect = tt
 may_memory Carry = tt
+may_memory Drill = tt
 
 leaves_memory : (t : Tells) (verb : Verb) (task : Task) (d : Devices) (ts tc : Bool) → IsWellFormed ts tc d.rack
     → leaves_of verb t task d OutOfMemory d
@@ -86,6 +88,15 @@ leaves_memory t Drop task d ts tc well = record {
   input = refl;
   out = refl;
 }
+leaves_memory t Detect task d ts tc well = record {
+  looks = record { contents = refl; units = KeepsUnits-same _ d.rack d.rack (SameDisks-refl d.rack) };
+  same = SameInput-same _ d.rack d.rack (SameDisks-refl d.rack);
+  moves = MovesFew-same ts tc _ d.rack d.rack well refl;
+  still = λ of. refl;
+  cut = λ e. absurd (cc);
+  unwritten = inr (inr refl);
+  input = refl;
+}
 leaves_memory t Carry task d ts tc well = record {
   front = λ told. AppendsFront-none d.out.taken _;
   unwritten = λ of. refl;
@@ -100,6 +111,12 @@ leaves_memory t Carry task d ts tc well = record {
   exists = λ e. absurd (cc);
   memory = λ e. inl (SameDisks-refl d.rack);
   moves = MovesFew-same ts tc _ d.rack d.rack well refl;
+}
+leaves_memory t Drill task d ts tc well = record {
+  cut = λ e. absurd (cc);
+  unwritten = inr (inr refl);
+  input = refl;
+  rack = refl;
 }
 
 -- want of memory before anything else

@@ -8,7 +8,7 @@ use Rattle.bm_jobfile.specs.declared.job_file.JobFile.{JobFile}
 use Rattle.bm_jobfile.specs.JobFile.{IsJobFile}
 use Rattle.bm_disks.specs.Input.{IsRead}
 use Rattle.bm_top.specs.Causes.{CauseOf}
-use Rattle.bm_top.specs.JobRead.{JobCause, JobRead}
+use Rattle.bm_top.specs.JobRead.{JobCause, JobRead, TakesShape}
 use Rattle.bm_top.specs.Moment.{SourceView, Devices, Moment, Tells}
 use Rattle.bm_top.specs.Status.{IsOfWords, RefusesJob, IsBeforeTask}
 use Rattle.bm_top.specs.Task.{HoldsTask, IsTaskOf, IsFlipTask, TaskFits}
@@ -24,7 +24,8 @@ use Rattle.bm_top.specs.declared.status.Status.TheVariants.{Done, OutOfMemory, U
 use Rattle.bm_top.specs.declared.status.Status.TheVariants.{DataFault, DataShort, DataLong, RackFault, NoDisks, WrongDims, Exists}
 use Rattle.bm_top.specs.declared.status.Status.TheVariants.{NotLoaded, OtherShape, OtherJob, NotDone, NoJob, BadPage, SinkFault, OutOfRange}
 use Rattle.bm_top.specs.declared.status.Status.TheVariants.{NotAffine, NotPermutation, BatchShape}
-use Rattle.bm_top.proofs.JobReadLemmas.{source_ended, source_taken, not_refused}
+use Rattle.bm_top.proofs.JobCauseLemmas.{not_refused}
+use Rattle.bm_top.proofs.JobReadLemmas.{source_ended, source_taken}
 use Rattle.bm_top.proofs.WordsLemmas.{IsFlip-unique, the_verb, verb_no_flip}
 
 -- ---- answers that no command gives once its job is read
@@ -102,38 +103,39 @@ holds_task told v text (Ok task) same is =
     λ t. (is.0, subst (λ (x : List ℕ). IsJobFile x is.0) (sym (same t)) is.1, is.2)
 
 -- and so is its refusal
-pub text_refused : (told : Bool) (old new : SourceView) (text : List ℕ) (result : Result Task Status) (most got : ℕ)
-    → (IsTrue told → old.left ≡ text) → ¬ IsErrOf result JobFault → IfErr result (λ status. JobCause text status)
+pub text_refused : (verb : Verb) (told : Bool) (old new : SourceView) (text : List ℕ) (result : Result Task Status) (most got : ℕ)
+    → (IsTrue told → old.left ≡ text) → ¬ IsErrOf result JobFault → IfErr result (λ status. JobCause verb text status)
     → most ≡ 65537 → got < most → (IsTrue told → (got ≡ length old.left) × (new.left ≡ [])) → (IsTrue told → IsRead most old.left new.left)
     → old.faults ≤ new.faults
-    → IfErr result (λ status. JobRead told old status new)
-text_refused told old new text (Ok task) most got same calm cause is short end few low = tt
-text_refused told old new text (Err status) most got same calm cause is short end few low =
-    source_ended told status old new most got is (λ e. calm (ap Err e)) short end few low
-    (λ t. subst (λ (x : List ℕ). JobCause x status) (sym (same t)) cause)
+    → IfErr result (λ status. JobRead verb told old status new)
+text_refused verb told old new text (Ok task) most got same calm cause is short end few low = tt
+text_refused verb told old new text (Err status) most got same calm cause is short end few low =
+    source_ended verb told status old new most got is (λ e. calm (ap Err e)) short end few low
+    (λ t. subst (λ (x : List ℕ). JobCause verb x status) (sym (same t)) cause)
 
 -- once its task was taken
 pub job_done : (t : Tells) (verb : Verb) (task : Task) (old : Moment) (answer : Status) (new : Moment) → HoldsTask t.job old.job task
-    → TaskFits task → (IsTrue t.job → (new.job.left ≡ []) × (length old.job.left ≤ 65536)) → old.job.faults ≤ new.job.faults
+    → TaskFits task → TakesShape verb task.shape → (IsTrue t.job → (new.job.left ≡ []) × (length old.job.left ≤ 65536))
+    → old.job.faults ≤ new.job.faults
     → TaskCall t verb task old.devices answer new.devices → JobCall t verb old answer new
-job_done t verb task old answer new holds fits end low call =
+job_done t verb task old answer new holds fits takes end low call =
     let fine = not_refusing t verb task old.devices answer new.devices call.cause in
     record {
-      source = source_taken t.job answer old.job new.job fine end low;
-      task = inr (task, holds, fits, call);
+      source = source_taken verb t.job answer old.job new.job fine end low;
+      task = inr (task, holds, fits, takes, call);
       refused = λ is. absurd (fine is);
-      accepted = λ file told means calm. fine;
+      accepted = λ file told means its calm. fine;
     }
 
 -- where it was refused
 pub job_stopped : (t : Tells) (verb : Verb) (old : Moment) (answer : Status) (new : Moment) → IsBeforeTask answer
     → new.devices ≡ old.devices
-    → JobRead t.job old.job answer new.job → JobCall t verb old answer new
+    → JobRead verb t.job old.job answer new.job → JobCall t verb old answer new
 job_stopped t verb old answer new before same read = record {
   source = read;
   task = inl (before, same);
   refused = λ is. same;
-  accepted = λ file told means calm. not_refused t.job old.job answer new.job file read told means calm;
+  accepted = λ file told means its calm. not_refused verb t.job old.job answer new.job file read told means its calm;
 }
 
 -- and it is one of a command
@@ -141,7 +143,7 @@ pub job_known : (t : Tells) (verb : Verb) (old : Moment) (answer : Status) (new 
 job_known t verb old answer new call e =
     ⊎_elim
     (λ before. (let is : IsBeforeTask Usage = subst IsBeforeTask e before.0 in absurd is))
-    (λ done. not_of_words t verb done.0 old.devices answer new.devices done.3.cause (subst IsOfWords (sym e) tt))
+    (λ done. not_of_words t verb done.0 old.devices answer new.devices done.4.cause (subst IsOfWords (sym e) tt))
     call.task
 
 -- ---- a flip

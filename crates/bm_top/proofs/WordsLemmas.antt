@@ -106,12 +106,15 @@ verb_from : List ℕ → Verb
 verb_from word =
     let first = get_or word 0 0 in
     let second = get_or word 1 0 in
+    let third = get_or word 2 0 in
     if first == 110 then verbs.New else
     if first == 108 then verbs.Load else
     if first == 112 then verbs.Plan else
     if first == 115 then verbs.Status else
     if first == 99 then verbs.Carry else
+    if third == 105 then verbs.Drill else
     if second == 114 then verbs.Drop else
+    if second == 101 then verbs.Detect else
     if first == 100 then verbs.Dump else verbs.Run
 
 verb_back : (verb : Verb) → verb_from (verb_word verb) ≡ verb
@@ -123,7 +126,9 @@ verb_back verbs.Run = refl
 verb_back verbs.Status = refl
 verb_back verbs.Dump = refl
 verb_back verbs.Drop = refl
+verb_back verbs.Detect = refl
 verb_back verbs.Carry = refl
+verb_back verbs.Drill = refl
 
 -- words spell one command that has a job
 pub the_verb : (words : List (String Global)) (v w : Verb) → IsJobWords words v → IsJobWords words w → v ≡ w

@@ -15,23 +15,29 @@ use Rattle.bm_control.specs.Sound.{IsSound}
 use Rattle.bm_control.specs.State.{StateAnswer}
 use Rattle.bm_job.specs.Begins.{IsLoadedState, IsOpenState}
 use Rattle.bm_job.specs.Runs.{SameContents}
+use Rattle.bm_detect.specs.declared.detect_error.DetectError.{DetectError}
+use Rattle.bm_detect.specs.declared.detect_error.DetectError.TheVariants as refusal
+use Rattle.bm_detect.specs.Candidate.{input_number}
+use Rattle.bm_detect.specs.Answer.{DetectAnswer}
 use Rattle.bm_disks.specs.Input.{EndsAfter, GoesOnAfter}
 use Rattle.bm_top.specs.Moment.{Devices, Tells, TellsRack}
 use Rattle.bm_top.specs.declared.task.Task.{Task}
 use Rattle.bm_top.specs.declared.words.Verb.{Verb}
-use Rattle.bm_top.specs.declared.words.Verb.TheVariants.{New, Plan, Drop, Carry}
+use Rattle.bm_top.specs.declared.words.Verb.TheVariants.{New, Plan, Drop, Carry, Drill}
 use Rattle.bm_top.specs.declared.status.Status.{Status}
 use Rattle.bm_top.specs.declared.status.Status.TheVariants.{Done, OutOfMemory, DataFault, DataShort, DataLong, RackFault, NoDisks}
 use Rattle.bm_top.specs.declared.status.Status.TheVariants.{WrongDims, Exists, NotLoaded, OtherShape, OtherJob, NotDone, NoJob, BadPage}
-use Rattle.bm_top.specs.declared.status.Status.TheVariants.{SinkFault}
+use Rattle.bm_top.specs.declared.status.Status.TheVariants.{SinkFault, OutOfRange, NotAffine, NotPermutation}
 
 -- ---- what stands
 
--- what stands where the command goes on: nothing where it makes the disks, those of the shape where it attaches them
+-- what stands where the command goes on: nothing where it makes the disks, those of the shape where it attaches them, and anything where it
+-- touches none
 abbrev pub GoesOn : Verb → Dims → Option Dims → Type 0
 GoesOn New dims stands = stands ≡ None
 GoesOn Carry dims stands = stands ≡ None
 GoesOn Plan dims stands = Unit {0}
+GoesOn Drill dims stands = Unit {0}
 GoesOn _ dims stands = stands ≡ Some dims
 
 abbrev pub HasDisks : Tells → Verb → Task → Devices → Type 0
@@ -42,6 +48,7 @@ abbrev pub Attaches : Verb → Type 0
 Attaches New = ⊥
 Attaches Carry = ⊥
 Attaches Plan = ⊥
+Attaches Drill = ⊥
 Attaches _ = Unit {0}
 
 -- ---- what the control file tells
@@ -52,6 +59,17 @@ pub record HasJob (s : Shape) (job : Job) (passes done : ℕ) (v : Contents) : T
   pub part : ℕ
   pub slot : ℕ
   pub working : StateAnswer v (Ok (Working s job passes done every part slot))
+
+-- records of this shape are loaded, whichever job is open
+pub record HasLoadedShape (s : Shape) (v : Contents) : Type 0 where
+  pub state : SlateState
+  pub told : StateAnswer v (Ok state)
+  pub loaded : IsLoadedState s state
+
+-- records of this shape are loaded, and their numbers are no affine permutation of the addresses, for this first cause
+pub record IsUndetected (s : Shape) (cause : DetectError) (v : Contents) : Type 0 where
+  pub loaded : HasLoadedShape s v
+  pub numbers : DetectAnswer s.n (input_number v s) (Err cause)
 
 -- another shape is loaded
 pub record HasOtherShape (s : Shape) (v : Contents) : Type 0 where
@@ -117,4 +135,7 @@ CauseOf t verb task old NoJob new = SlateSays t verb task old (HasNoJob verb tas
 CauseOf t verb task old (BadPage page) new =
     SlateSays t verb task old (λ v. HasBadPage t old.rack new.rack page)
 CauseOf t verb task old SinkFault new = HasDisks t verb task old × Rose old.out.faults new.out.faults
+CauseOf t verb task old (OutOfRange x y) new = SlateSays t verb task old (IsUndetected task.shape (refusal.OutOfRange x y))
+CauseOf t verb task old (NotAffine x y want) new = SlateSays t verb task old (IsUndetected task.shape (refusal.NotAffine x y want))
+CauseOf t verb task old (NotPermutation x) new = SlateSays t verb task old (IsUndetected task.shape (refusal.Singular x))
 CauseOf t verb task old _ new = ⊥

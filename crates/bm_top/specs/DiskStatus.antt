@@ -9,9 +9,11 @@ use Rattle.bm_disks.specs.declared.dumping.DumpError.{DumpError}
 use Rattle.bm_disks.specs.declared.dumping.DumpError.TheVariants as dump
 use Rattle.bm_disks.specs.declared.dropping.DropError.{DropError}
 use Rattle.bm_disks.specs.declared.dropping.DropError.TheVariants as drop
+use Rattle.bm_detect.specs.declared.detect_error.DetectError.{DetectError}
+use Rattle.bm_detect.specs.declared.detect_error.DetectError.TheVariants as detect
 use Rattle.bm_top.specs.declared.status.Status.{Status}
 use Rattle.bm_top.specs.declared.status.Status.TheVariants.{DataFault, DataShort, DataLong, RackFault, NotLoaded, OtherShape, OtherJob}
-use Rattle.bm_top.specs.declared.status.Status.TheVariants.{NoJob, BadPage, SinkFault}
+use Rattle.bm_top.specs.declared.status.Status.TheVariants.{NoJob, BadPage, SinkFault, OutOfRange, NotAffine, NotPermutation}
 
 -- of records that were not loaded
 abbrev pub load_status : LoadError → Status
@@ -41,6 +43,13 @@ open_status opening.OtherJob = OtherJob
 abbrev pub dump_status : DumpError → Status
 dump_status dump.Failed = RackFault
 dump_status dump.SinkFault = SinkFault
+
+-- of numbers that are no affine permutation
+abbrev pub detect_status : DetectError → Status
+detect_status detect.Failed = RackFault
+detect_status (detect.OutOfRange x y) = OutOfRange x y
+detect_status (detect.NotAffine x y want) = NotAffine x y want
+detect_status (detect.Singular x) = NotPermutation x
 
 -- of a job that was not dropped
 abbrev pub drop_status : DropError → Status

@@ -14,11 +14,12 @@ use Rattle.bm_jobfile.specs.JobFile.{IsJobFile}
 use Rattle.bm_top.specs.Moment.{SourceView}
 use Rattle.bm_top.specs.declared.task.Task.{Task}
 
--- its numbers keep their ranges: a job of the shape, and 1 to N/M loads
+-- its numbers keep their ranges: a job of the shape, 1 to N/M loads, and at most 64 stops
 pub record TaskFits (task : Task) : Type 0 where
   pub job : JobFits task.shape task.job
   pub every_some : 1 ≤ task.every
   pub every_few : task.every ≤ loads_of task.shape
+  pub stops_few : length task.stops ≤ 64
 
 -- this is the plan of its job: it has the passes of one, at least 1 and no more than the pass limit
 pub record IsPlanOf (task : Task) (plan : PlanValue) : Type 0 where
@@ -32,6 +33,8 @@ pub record IsTaskOf (file : JobFile) (task : Task) : Type 0 where
   pub shape : task.shape ≡ file.shape
   pub job : task.job ≡ file.job
   pub every : task.every ≡ file.every
+  pub start : task.start ≡ file.start
+  pub stops : task.stops ≡ file.stops
 
 -- The job source holds this task: its text, where it is told, means a job file of it.
 abbrev pub HoldsTask : Bool → SourceView → Task → Type 0

@@ -8,7 +8,7 @@ use Rattle.bm_jobfile.specs.declared.job_file.JobFile.{JobFile}
 use Rattle.bm_jobfile.specs.JobFile.{IsJobFile}
 use Rattle.bm_top.specs.Causes.{CauseOf}
 use Rattle.bm_top.specs.Exits.{EachExit}
-use Rattle.bm_top.specs.JobRead.{JobRead}
+use Rattle.bm_top.specs.JobRead.{JobRead, TakesShape}
 use Rattle.bm_top.specs.Moment.{Devices, Moment, Tells}
 use Rattle.bm_top.specs.Status.{IsOfWords, RefusesJob, IsBeforeTask}
 use Rattle.bm_top.specs.declared.task.Task.{Task}
@@ -21,7 +21,9 @@ use Rattle.bm_top.specs.commands.Run.{RunMay, RunDoneWith, RunLeaves, RunCase}
 use Rattle.bm_top.specs.commands.Status.{StatusMay, StatusDone, StatusLeaves, StatusCase}
 use Rattle.bm_top.specs.commands.Dump.{DumpMay, DumpDone, DumpLeaves, DumpCase}
 use Rattle.bm_top.specs.commands.Drop.{DropMay, DropDone, DropLeaves, DropCase}
+use Rattle.bm_top.specs.commands.Detect.{DetectMay, DetectDone, DetectLeaves, DetectCase}
 use Rattle.bm_top.specs.commands.Carry.{CarryMay, CarryDone, CarryLeaves, CarryCase}
+use Rattle.bm_top.specs.commands.Drill.{DrillMay, DrillDone, DrillLeaves}
 use Rattle.bm_top.specs.declared.words.Flip.{Flip}
 use Rattle.bm_top.specs.declared.words.Verb.{Verb}
 use Rattle.bm_top.specs.declared.words.Verb.TheVariants as verbs
@@ -39,7 +41,9 @@ may_of verbs.Run = RunMay
 may_of verbs.Status = StatusMay
 may_of verbs.Dump = DumpMay
 may_of verbs.Drop = DropMay
+may_of verbs.Detect = DetectMay
 may_of verbs.Carry = CarryMay
+may_of verbs.Drill = DrillMay
 
 -- what Done says
 abbrev pub done_of : Verb → Tells → Task → Devices → Devices → Type 0
@@ -50,7 +54,9 @@ done_of verbs.Run = RunDoneWith
 done_of verbs.Status = StatusDone
 done_of verbs.Dump = DumpDone
 done_of verbs.Drop = λ t task. DropDone t
+done_of verbs.Detect = DetectDone
 done_of verbs.Carry = CarryDone
+done_of verbs.Drill = DrillDone
 
 -- what each exit leaves
 abbrev pub leaves_of : Verb → Tells → Task → Devices → Status → Devices → Type 0
@@ -61,7 +67,9 @@ leaves_of verbs.Run = RunLeaves
 leaves_of verbs.Status = StatusLeaves
 leaves_of verbs.Dump = DumpLeaves
 leaves_of verbs.Drop = λ t. DropLeaves
+leaves_of verbs.Detect = DetectLeaves
 leaves_of verbs.Carry = CarryLeaves
+leaves_of verbs.Drill = DrillLeaves
 
 -- where it answers Done or OutOfMemory, if no device fails
 abbrev pub case_of : Verb → Tells → Task → Devices → Type 0
@@ -72,7 +80,9 @@ case_of verbs.Run = RunCase
 case_of verbs.Status = StatusCase
 case_of verbs.Dump = DumpCase
 case_of verbs.Drop = DropCase
+case_of verbs.Detect = DetectCase
 case_of verbs.Carry = CarryCase
+case_of verbs.Drill = λ t task old. Unit {0}
 
 -- ---- one command
 
@@ -96,15 +106,17 @@ pub record TaskCall (t : Tells) (verb : Verb) (task : Task) (old : Devices) (ans
   pub complete : case_of verb t task old → NoFaults old new → IsDoneUnlessMemory answer
 
 -- A command whose words name a job: the job source is read, and a job that is refused or not read leaves all else as it was. Otherwise the
--- source holds a task whose numbers keep their ranges, and the command does it. A text that means a job is refused only where the source
--- failed.
+-- source holds a task whose numbers keep their ranges and whose shape the command takes, and the command does it. A text that means a job
+-- of such a shape is refused only where the source failed.
 pub record JobCall (t : Tells) (verb : Verb) (old : Moment) (answer : Status) (new : Moment) : Type 0 where
-  pub source : JobRead t.job old.job answer new.job
+  pub source : JobRead verb t.job old.job answer new.job
   pub task : (IsBeforeTask answer × (new.devices ≡ old.devices))
-      ⊎ ((task : Task) × HoldsTask t.job old.job task × TaskFits task × TaskCall t verb task old.devices answer new.devices)
+      ⊎ ((task : Task) × HoldsTask t.job old.job task × TaskFits task × TakesShape verb task.shape
+      × TaskCall t verb task old.devices answer new.devices)
   -- these two follow from those above; they stay since a reader looks for them here
   pub refused : RefusesJob answer → new.devices ≡ old.devices
-  pub accepted : (file : JobFile) → IsTrue t.job → IsJobFile old.job.left file → ¬ Rose old.job.faults new.job.faults → ¬ RefusesJob answer
+  pub accepted : (file : JobFile) → IsTrue t.job → IsJobFile old.job.left file → TakesShape verb file.shape
+      → ¬ Rose old.job.faults new.job.faults → ¬ RefusesJob answer
 
 -- A flip has no job source. It carries the input through the job x XOR c, where its numbers are a shape's.
 pub record FlipCall (t : Tells) (flip : Flip) (old : Moment) (answer : Status) (new : Moment) : Type 0 where

@@ -44,7 +44,9 @@ verb_word verbs.Run = codes "run"
 verb_word verbs.Status = codes "status"
 verb_word verbs.Dump = codes "dump"
 verb_word verbs.Drop = codes "drop"
+verb_word verbs.Detect = codes "detect"
 verb_word verbs.Carry = codes "carry"
+verb_word verbs.Drill = codes "drill"
 
 -- the words are that of the command and this one, which names the job
 abbrev pub NamesJob : List (String Global) → Verb → List ℕ → Type 0

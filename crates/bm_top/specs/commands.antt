@@ -6,4 +6,6 @@ pub mod Run
 pub mod Status
 pub mod Dump
 pub mod Drop
+pub mod Detect
 pub mod Carry
+pub mod Drill

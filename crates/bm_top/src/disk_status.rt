@@ -2,9 +2,10 @@
 
 ghost use Rattle.std.specs.Prelude.{◌≡◌};
 ghost use Rattle.bm_top.specs.DiskStatus.{load_status, run_status, open_status, dump_status};
-ghost use Rattle.bm_top.specs.DiskStatus.{drop_status};
+ghost use Rattle.bm_top.specs.DiskStatus.{drop_status, detect_status};
 
 use crate::Status;
+use bm_detect::DetectError;
 use bm_disks::{DropError, DumpError, LoadError, OpenError};
 use bm_job::RunError;
 
@@ -54,6 +55,18 @@ pub fn dump_status(error: DumpError) -> Status
     match error {
         DumpError::Failed => Status::RackFault,
         DumpError::SinkFault => Status::SinkFault,
+    }
+}
+
+/// Of numbers that are no affine permutation.
+pub fn detect_status(error: DetectError) -> Status
+    ensures { result ≡ detect_status error }
+{
+    match error {
+        DetectError::Failed => Status::RackFault,
+        DetectError::OutOfRange { x, y } => Status::OutOfRange { x, y },
+        DetectError::NotAffine { x, y, want } => Status::NotAffine { x, y, want },
+        DetectError::Singular { x } => Status::NotPermutation { x },
     }
 }
 

@@ -2,6 +2,7 @@
 
 #![tactic(auto)]
 
+mod answer_line;
 mod commands;
 mod disk_status;
 mod disks;
@@ -14,7 +15,12 @@ mod task;
 mod top_call;
 mod words;
 
+pub use answer_line::write_answer;
+pub use disk_status::{dump_status, load_status, run_status};
+pub use disks::{DisksError, attach_disks, create_disks, disks_status, new_disks};
+pub use job_reading::read_task;
+pub use planning::make_plan;
 pub use status::Status;
 pub use task::Task;
 pub use top_call::bmmc_top;
-pub use words::{Flip, Verb, job_word};
+pub use words::{Command, Flip, Verb, command_of, job_word, number_of};

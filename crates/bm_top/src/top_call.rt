@@ -5,11 +5,15 @@ ghost use Rattle.bm_base.specs.Count.{Rose};
 ghost use Rattle.bm_rack.specs.Sink.{AppendsFront};
 ghost use Rattle.bm_top.specs.Moment.{source_of, sink_of, devices_of, moment_of, tells_of};
 ghost use Rattle.bm_top.specs.StatusWords.{line_of};
+ghost use Rattle.bm_top.specs.JobRead.{TakesShape};
 ghost use Rattle.bm_top.specs.Task.{TaskFits};
 ghost use Rattle.bm_top.specs.TopCall.{TaskCall, JobCall, TopCall};
 
 use crate::Status;
+use crate::answer_line::write_answer;
 use crate::commands::carry::run_carry;
+use crate::commands::detect::run_detect;
+use crate::commands::drill::run_drill;
 use crate::commands::drop::run_drop;
 use crate::commands::dump::run_dump;
 use crate::commands::flip::run_flip;
@@ -19,39 +23,40 @@ use crate::commands::plan::run_plan;
 use crate::commands::run::run_run;
 use crate::commands::status::run_status;
 use crate::job_reading::read_task;
-use crate::status_words::status_words;
 use crate::task::Task;
 use crate::words::{Command, Verb, command_of};
 use bm_rack::{Rack, Sink, Source};
-use bm_text::write_line;
 use std::alloc::Global;
 
 // Carries out a command whose job is read.
 fn run_task<R: Rack, S: Source, K: Sink>(
     alloc: Global,
     verb: Verb,
-    task: &Task,
+    task: Task,
     input: &mut S,
     out: &mut K,
     rack: &mut R,
 ) -> Status
-    requires { TaskFits task.now }
+    requires fits { TaskFits task }
+    requires takes { TakesShape verb task.shape }
     ensures { (told : Bool) → TaskCall
-        (tells_of told S.tells K.tells R.tells_stands R.tells_contents) verb task.now
+        (tells_of told S.tells K.tells R.tells_stands R.tells_contents) verb task
         (devices_of (source_of (S.left input.old) (S.faults input.old))
         (sink_of (K.taken out.old) (K.faults out.old)) (R.view rack.old)) result
         (devices_of (source_of (S.left input.new) (S.faults input.new))
         (sink_of (K.taken out.new) (K.faults out.new)) (R.view rack.new)) }
 {
     match verb {
-        Verb::New => run_new(task, rack),
-        Verb::Load => run_load(alloc, task, input, rack),
-        Verb::Plan => run_plan(task, out),
-        Verb::Run => run_run(alloc, task, out, rack),
-        Verb::Status => run_status(task, out, rack),
-        Verb::Dump => run_dump(alloc, task, out, rack),
-        Verb::Drop => run_drop(task, rack),
-        Verb::Carry => run_carry(alloc, task, input, out, rack),
+        Verb::New => run_new(&task, rack),
+        Verb::Load => run_load(alloc, &task, input, rack),
+        Verb::Plan => run_plan(&task, out),
+        Verb::Run => run_run(alloc, &task, out, rack),
+        Verb::Status => run_status(&task, out, rack),
+        Verb::Dump => run_dump(alloc, &task, out, rack),
+        Verb::Drop => run_drop(&task, rack),
+        Verb::Detect => run_detect(alloc, &task, out, rack),
+        Verb::Carry => run_carry(alloc, &task, input, out, rack),
+        Verb::Drill => run_drill(alloc, task, out),
     }
 }
 
@@ -73,8 +78,8 @@ fn run_on_job<R: Rack, J: Source, S: Source, K: Sink>(
         (devices_of (source_of (S.left input.new) (S.faults input.new))
         (sink_of (K.taken out.new) (K.faults out.new)) (R.view rack.new))) }
 {
-    match read_task(alloc, job) {
-        Ok(task) => run_task(alloc, verb, &task, input, out, rack),
+    match read_task(alloc, verb, job) {
+        Ok(task) => run_task(alloc, verb, task, input, out, rack),
         Err(status) => status,
     }
 }
@@ -106,11 +111,12 @@ fn run_command<R: Rack, J: Source, S: Source, K: Sink>(
 
 /// Carries out the command that the words spell, and writes the line of its answer to `err`.
 ///
-/// The words are `flip n b d m width c`, or `new`, `load`, `plan`, `run`, `status`, `dump`, `drop` or
-/// `carry` and any word that names the job. Every command but `flip` first reads the job source, up
-/// to 65537 bytes of it. The refusals up to there come in this order: `Usage`; `JobFault`; `JobText`,
-/// for a text of 65537 bytes and more too; `JobField`; `JobShape`; `JobMap`. A flip goes from `Usage`
-/// to `JobShape`. Then the plan and the buffers are made, and the disks attached or made:
+/// The words are `flip n b d m width c`, or `new`, `load`, `plan`, `run`, `status`, `dump`, `drop`,
+/// `detect`, `carry` or `drill` and any word that names the job. Every command but `flip` first reads
+/// the job source, up to 65537 bytes of it. The refusals up to there come in this order: `Usage`;
+/// `JobFault`; `JobText`, for a text of 65537 bytes and more too; `JobField`; `JobShape`, in `drill`
+/// with rule 8 for an input of more than 2^26 bytes; `JobMap`, in `detect` first for a width other
+/// than 8. A flip goes from `Usage` to `JobShape`. Then the plan and the buffers are made, and the disks attached or made:
 /// `RackFault`, `OutOfMemory`, and `NoDisks`, `WrongDims` or `Exists`.
 ///
 /// - `new` makes the disks of the shape. `drop` closes the job that is open, else `NoJob`.
@@ -119,7 +125,11 @@ fn run_command<R: Rack, J: Source, S: Source, K: Sink>(
 /// - `run` does the job, or goes on with it: `NotLoaded`, `OtherShape`, `OtherJob`, `BadPage`.
 /// - `status` tells how far the open job is, and `dump` writes its records once it is done: as `run`,
 ///   and `NoJob`, `NotDone`.
+/// - `detect` writes a job text of the affine permutation whose images the records of the input are:
+///   `BadPage`, `NotLoaded`, `OtherShape`, `OutOfRange`, `NotAffine`, `NotPermutation`.
 /// - `carry` and `flip` make the disks, load, run and dump.
+/// - `drill` does the job to generated records, on disks in memory that are stopped where the job
+///   text says so, and writes what came out of it. It touches no other disks.
 ///
 /// `RackFault` and `SinkFault` come as they are met. No memory is asked for once the disks are
 /// attached. A write to `err` that fails ends that line, and changes nothing else.
@@ -148,6 +158,6 @@ pub fn bmmc_top<R: Rack, J: Source, S: Source, K: Sink, E: Sink>(
     ensures faults { E.faults err.old ≤ E.faults err.new }
 {
     let status = run_command(alloc, words, job, input, out, rack);
-    let _ = write_line(err, status_words(&status).as_str().as_bytes());
+    write_answer(err, &status);
     status
 }

@@ -43,8 +43,12 @@ pub enum Verb {
     Dump,
     /// `drop JOB`.
     Drop,
+    /// `detect JOB`.
+    Detect,
     /// `carry JOB`.
     Carry,
+    /// `drill JOB`.
+    Drill,
 }
 
 /// A command.
@@ -56,10 +60,10 @@ pub enum Command {
     On(Verb),
 }
 
-// The number that a word spells in its one way, where it is at most `most`.
-//
-// That way is decimal digits with no sign and no leading zero, but for `0` itself.
-fn number_of(word: &str, most: u64) -> Option<u64>
+/// The number that a word spells in its one way, where it is at most `most`.
+///
+/// That way is decimal digits with no sign and no leading zero, but for `0` itself.
+pub fn number_of(word: &str, most: u64) -> Option<u64>
     ensures found { IfSome result (λ n. (n ≤ most) × (word.now ≡ decimal n)) }
     ensures none { IfNone result ((n : ℕ) → n ≤ most → word.now ≢ decimal n) }
 {
@@ -149,7 +153,9 @@ fn verb_of(word: &str) -> Option<Verb>
         "status" => Some(Verb::Status),
         "dump" => Some(Verb::Dump),
         "drop" => Some(Verb::Drop),
+        "detect" => Some(Verb::Detect),
         "carry" => Some(Verb::Carry),
+        "drill" => Some(Verb::Drill),
         _ => None,
     }
 }

@@ -8,14 +8,14 @@ ghost use Rattle.bm_top.specs.TopCall.{FlipCall};
 
 use crate::commands::carry::run_carry;
 use crate::{Flip, Status, Task};
-use bm_base::Shape;
+use bm_base::{Shape, Stops};
 use bm_forms::Job;
 use bm_named::{identity, with_complement};
 use bm_rack::{Rack, Sink, Source};
 use std::alloc::Global;
 
 // The task of a flip of a shape.
-fn flip_task(shape: &Shape, c: u64) -> Task
+fn flip_task(alloc: Global, shape: &Shape, c: u64) -> Task
     requires { c < 2 ^ shape.now.n }
     ensures task { IsFlipTask shape.now c result }
     ensures fits { TaskFits result }
@@ -25,6 +25,8 @@ fn flip_task(shape: &Shape, c: u64) -> Task
         shape: *shape,
         job: Job::Permute(map),
         every: shape.loads(),
+        start: 0,
+        stops: Stops::of(Vec::new(alloc)),
     }
 }
 
@@ -47,7 +49,7 @@ pub fn run_flip<R: Rack, S: Source, K: Sink>(
 {
     match Shape::new(flip.n, flip.b, flip.d, flip.m, flip.width) {
         Ok(shape) => {
-            let task = flip_task(&shape, flip.c);
+            let task = flip_task(alloc, &shape, flip.c);
             run_carry(alloc, &task, input, out, rack)
         }
         Err(broken) => Status::JobShape { rule: broken.rule },

@@ -1,6 +1,8 @@
 //! One module for each command, by its word.
 
 pub mod carry;
+pub mod detect;
+pub mod drill;
 pub mod drop;
 pub mod dump;
 pub mod flip;

@@ -6,7 +6,7 @@ use Rattle.bm_top.proofs.job_reading.task_through.Goals as goal
 
 pub returns-in-Ok-clause-refused : goal.returns-in-Ok-clause-refused
 returns-in-Ok-clause-refused g c =
-    source_too_long _ c.fill.new.into _ _ _ c.requires c.fill.auto.into
+    source_too_long c.args.verb _ c.fill.new.into _ _ _ c.requires c.fill.auto.into
     (λ t. c.in-Ok.ensures.whole t refl) c.fill.ensures.few c.fill.ensures.faults
 
 pub returns-in-Err-Short-clause-task : goal.returns-in-Err-Short-clause-task
@@ -17,5 +17,5 @@ returns-in-Err-Short-clause-task g c =
 pub returns-in-Err-Short-clause-refused : goal.returns-in-Err-Short-clause-refused
 returns-in-Err-Short-clause-refused g c =
     let short = c.in-Err-Short.ensures.short c.in-Err-Short.got (cc) in
-    text_refused _ _ _ _ c.task_of.result _ c.in-Err-Short.got (λ t. c.in-Err-Short.ensures.part t c.in-Err-Short.got (cc))
+    text_refused c.args.verb _ _ _ _ c.task_of.result _ c.in-Err-Short.got (λ t. c.in-Err-Short.ensures.part t c.in-Err-Short.got (cc))
     c.task_of.ensures.no_fault c.task_of.ensures.cause c.requires short.0 short.1 c.fill.ensures.few c.fill.ensures.faults

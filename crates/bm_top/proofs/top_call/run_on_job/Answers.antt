@@ -13,7 +13,7 @@ returns-in-Ok g c =
     (moment_of (source_of (g.J.Source.left c.read_task.new.job) (g.J.Source.faults c.read_task.new.job)) (devices_of (source_of
     (g.S.Source.left c.run_task.new.input) (g.S.Source.faults c.run_task.new.input))
     (sink_of (g.K.Sink.taken c.run_task.new.out) (g.K.Sink.faults c.run_task.new.out)) (g.R.Rack.view c.run_task.new.rack)))
-    c.in-Ok.ensures.task c.in-Ok.ensures.fits (λ t. c.in-Ok.ensures.ended t refl) c.read_task.ensures.faults
+    c.in-Ok.ensures.task c.in-Ok.ensures.fits c.in-Ok.ensures.takes (λ t. c.in-Ok.ensures.ended t refl) c.read_task.ensures.faults
     (c.run_task.ensures g.J.Source.tells)
 
 pub returns-in-Err : goal.returns-in-Err

@@ -50,9 +50,23 @@ returns-in-Drop g c = λ told.
     (devices_of (source_of (g.S.Source.left c.args.input.now) (g.S.Source.faults c.args.input.now))
     (sink_of (g.K.Sink.taken c.args.out.now) (g.K.Sink.faults c.args.out.now)) (g.R.Rack.view c.args.rack.now)))
 
+pub returns-in-Detect : goal.returns-in-Detect
+returns-in-Detect g c = λ told.
+    rw c.in-Detect.is
+    (c.run_detect.ensures (tells_of told g.S.Source.tells g.K.Sink.tells g.R.Rack.tells_stands g.R.Rack.tells_contents)
+    (devices_of (source_of (g.S.Source.left c.args.input.now) (g.S.Source.faults c.args.input.now))
+    (sink_of (g.K.Sink.taken c.args.out.now) (g.K.Sink.faults c.args.out.now)) (g.R.Rack.view c.args.rack.now)))
+
 pub returns-in-Carry : goal.returns-in-Carry
 returns-in-Carry g c = λ told.
     rw c.in-Carry.is
     (c.run_carry.ensures (tells_of told g.S.Source.tells g.K.Sink.tells g.R.Rack.tells_stands g.R.Rack.tells_contents)
+    (devices_of (source_of (g.S.Source.left c.args.input.now) (g.S.Source.faults c.args.input.now))
+    (sink_of (g.K.Sink.taken c.args.out.now) (g.K.Sink.faults c.args.out.now)) (g.R.Rack.view c.args.rack.now)))
+
+pub returns-in-Drill : goal.returns-in-Drill
+returns-in-Drill g c = λ told.
+    rw c.in-Drill.is
+    (c.run_drill.ensures (tells_of told g.S.Source.tells g.K.Sink.tells g.R.Rack.tells_stands g.R.Rack.tells_contents)
     (devices_of (source_of (g.S.Source.left c.args.input.now) (g.S.Source.faults c.args.input.now))
     (sink_of (g.K.Sink.taken c.args.out.now) (g.K.Sink.faults c.args.out.now)) (g.R.Rack.view c.args.rack.now)))
