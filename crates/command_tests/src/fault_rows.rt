@@ -1,15 +1,14 @@
 //! Commands over devices that fail, and what the next command finds.
 
-use crate::calling::{Exchange, fed, first_wrong, run_over, said, step};
-use crate::texts::{INPUT, MARKED_REVERSAL, REVERSAL, REVERSED};
+use crate::calling::{job_of, said, said_over};
+use crate::steps::{
+    Exchange, done, fed, first_wrong, loaded, refused, run_after_all, run_anew, step,
+};
+use crate::texts::{DONE, INPUT, MARKED_REVERSAL, RACK_FAULT, REVERSAL, REVERSED};
 use bm_memrack::{MemRack, MemSink, MemSource, SureSource, UntoldRack};
 use bm_rack::{Found, Rack, StopRack};
 use std::alloc::Global;
 use std::test::Fail;
-
-const DONE: &str = "bmmc: done\n";
-
-const RACK_FAULT: &str = "bmmc: rack fault\n";
 
 /// A rack whose device call of this number fails.
 fn failing(alloc: Global, call: u64) -> Option<MemRack> {
@@ -19,49 +18,25 @@ fn failing(alloc: Global, call: u64) -> Option<MemRack> {
 /// The first transfer of the second pass fails: the first pass stays done.
 fn second_pass() -> [Exchange; 7] {
     [
-        step("new job", REVERSAL, 0, &[], DONE),
-        fed("load job", REVERSAL, INPUT, 0, &[], DONE),
-        step("run job", REVERSAL, 11, &[], RACK_FAULT),
-        step(
-            "status job",
-            REVERSAL,
-            0,
-            b"job permute\ngates 1 of 2\n",
-            DONE,
-        ),
-        step("dump job", REVERSAL, 18, &[], "bmmc: not done 1 of 2\n"),
-        step(
-            "run job",
-            REVERSAL,
-            0,
-            b"passes 2\nbefore 1\nmoves 8\nbound 24\n",
-            DONE,
-        ),
-        step("dump job", REVERSAL, 0, REVERSED, DONE),
+        done("new job", &[]),
+        loaded(),
+        refused("run job", 11, RACK_FAULT),
+        done("status job", b"job permute\ngates 1 of 2\n"),
+        refused("dump job", 18, "bmmc: not done 1 of 2\n"),
+        done("run job", b"passes 2\nbefore 1\nmoves 8\nbound 24\n"),
+        done("dump job", REVERSED),
     ]
 }
 
 /// A transfer of the first pass fails.
 fn first_pass() -> [Exchange; 6] {
     [
-        step("new job", REVERSAL, 0, &[], DONE),
-        fed("load job", REVERSAL, INPUT, 0, &[], DONE),
-        step("run job", REVERSAL, 11, &[], RACK_FAULT),
-        step(
-            "status job",
-            REVERSAL,
-            0,
-            b"job permute\ngates 0 of 2\n",
-            DONE,
-        ),
-        step(
-            "run job",
-            REVERSAL,
-            0,
-            b"passes 2\nbefore 0\nmoves 16\nbound 24\n",
-            DONE,
-        ),
-        step("dump job", REVERSAL, 0, REVERSED, DONE),
+        done("new job", &[]),
+        loaded(),
+        refused("run job", 11, RACK_FAULT),
+        done("status job", b"job permute\ngates 0 of 2\n"),
+        run_anew(),
+        done("dump job", REVERSED),
     ]
 }
 
@@ -71,14 +46,8 @@ fn second_load() -> [Exchange; 5] {
         step("new job", MARKED_REVERSAL, 0, &[], DONE),
         fed("load job", MARKED_REVERSAL, INPUT, 0, &[], DONE),
         step("run job", MARKED_REVERSAL, 11, &[], RACK_FAULT),
-        step(
-            "run job",
-            REVERSAL,
-            0,
-            b"passes 2\nbefore 0\nmoves 12\nbound 24\n",
-            DONE,
-        ),
-        step("dump job", REVERSAL, 0, REVERSED, DONE),
+        done("run job", b"passes 2\nbefore 0\nmoves 12\nbound 24\n"),
+        done("dump job", REVERSED),
     ]
 }
 
@@ -118,21 +87,22 @@ fn wanted(call: u64) -> (u8, u8) {
 /// Each device call of a `carry` fails in turn. The one after its last fails the attach of the run.
 #[test]
 fn faults_of_a_carry(rt: HostRuntime) -> Result<(), Fail> {
+    let after = [run_after_all(), done("dump job", REVERSED)];
     for call in 1..=63 {
         let mut rack = failing(rt.alloc(), call).ok_or("memory")?;
         let carried = said(rt.alloc(), "carry job", REVERSAL, INPUT, &mut rack).ok_or("memory")?;
         let ran = said(rt.alloc(), "run job", REVERSAL, &[], &mut rack).ok_or("memory")?;
-        assert_eq!(rt; (carried.code, ran.code), wanted(call), "call {call}");
-        if ran.code == 0 || carried.code == 0 {
-            let again = said(rt.alloc(), "run job", REVERSAL, &[], &mut rack).ok_or("memory")?;
-            assert_eq!(rt;
-                again.out.taken(),
-                b"passes 2\nbefore 2\nmoves 0\nbound 24\n".as_slice(),
-                "call {call}"
-            );
-            let dumped = said(rt.alloc(), "dump job", REVERSAL, &[], &mut rack).ok_or("memory")?;
-            assert_eq!(rt; dumped.out.taken(), REVERSED, "call {call}");
-        }
+        let wrong = if ran.code == 0 || carried.code == 0 {
+            first_wrong(rt.alloc(), &after, &mut rack)
+        } else {
+            None
+        };
+        let (carry, run) = wanted(call);
+        assert_eq!(rt;
+            (carried.code, ran.code, wrong),
+            (carry, run, None),
+            "call {call}"
+        );
     }
     Ok(())
 }
@@ -141,21 +111,21 @@ fn faults_of_a_carry(rt: HostRuntime) -> Result<(), Fail> {
 #[test]
 fn stop_of_a_run(rt: HostRuntime) -> Result<(), Fail> {
     let before = [
-        step("new job", REVERSAL, 0, &[], DONE),
-        fed("load job", REVERSAL, INPUT, 0, &[], DONE),
-        step("status job", REVERSAL, 19, &[], "bmmc: no job\n"),
+        done("new job", &[]),
+        loaded(),
+        refused("status job", 19, "bmmc: no job\n"),
     ];
+    let steps = second_pass();
     for pick in [0, u64::MAX / 3, u64::MAX / 3 * 2, u64::MAX] {
         let mut rack = MemRack::new(rt.alloc(), Vec::new(rt.alloc()));
-        assert_eq!(rt; first_wrong(rt.alloc(), &before, &mut rack), None);
+        let first = first_wrong(rt.alloc(), &before, &mut rack);
         rack.stop_after(25);
         let stopped = said(rt.alloc(), "run job", REVERSAL, &[], &mut rack).ok_or("memory")?;
         rack.restart(pick);
-        assert_eq!(rt; stopped.code, 11, "pick {pick}");
-        let steps = second_pass();
+        let next = first_wrong(rt.alloc(), &steps[3..], &mut rack);
         assert_eq!(rt;
-            first_wrong(rt.alloc(), &steps[3..], &mut rack),
-            None,
+            (first, stopped.code, next),
+            (None, 11, None),
             "pick {pick}"
         );
     }
@@ -168,28 +138,17 @@ fn faults_of_an_input(rt: HostRuntime) -> Result<(), Fail> {
     for call in 1..=4 {
         let mut rack = MemRack::new(rt.alloc(), Vec::new(rt.alloc()));
         let carried = said(rt.alloc(), "carry job", REVERSAL, INPUT, &mut rack).ok_or("memory")?;
-        let mut job = SureSource::new(REVERSAL.as_bytes().to_vec(rt.alloc())?);
+        let mut job = job_of(rt.alloc(), REVERSAL).ok_or("memory")?;
         let faults = [call].to_vec(rt.alloc())?;
         let mut input = MemSource::new(INPUT.to_vec(rt.alloc())?, 8, faults);
-        let mut out = MemSink::new(rt.alloc(), 64, 64, Vec::new(rt.alloc())).map_err(|_| "memory")?;
-        let mut err = MemSink::new(rt.alloc(), 64, 64, Vec::new(rt.alloc())).map_err(|_| "memory")?;
-        let loaded = run_over(
-            rt.alloc(),
-            "load job",
-            &mut job,
-            &mut input,
-            &mut out,
-            &mut err,
-            &mut rack,
+        let out = MemSink::new(rt.alloc(), 64, 64, Vec::new(rt.alloc())).map_err(|_| "memory")?;
+        let load = said_over(rt.alloc(), "load job", &mut job, &mut input, out, &mut rack).ok_or(
+            "memory",
         )?;
         let ran = said(rt.alloc(), "run job", REVERSAL, &[], &mut rack).ok_or("memory")?;
         // Two reads of a load each and one that finds the end.
         let want = if call < 4 { (0, 8, 15) } else { (0, 0, 0) };
-        assert_eq!(rt;
-            (carried.code, loaded.code(), ran.code),
-            want,
-            "read {call}"
-        );
+        assert_eq!(rt; (carried.code, load.code, ran.code), want, "read {call}");
     }
     Ok(())
 }
@@ -200,27 +159,23 @@ fn faults_of_an_output(rt: HostRuntime) -> Result<(), Fail> {
     for call in 1..=5 {
         let mut rack = MemRack::new(rt.alloc(), Vec::new(rt.alloc()));
         let carried = said(rt.alloc(), "carry job", REVERSAL, INPUT, &mut rack).ok_or("memory")?;
-        let mut job = SureSource::new(REVERSAL.as_bytes().to_vec(rt.alloc())?);
+        let mut job = job_of(rt.alloc(), REVERSAL).ok_or("memory")?;
         let mut input = SureSource::new(Vec::new(rt.alloc()));
         let faults = [call].to_vec(rt.alloc())?;
-        let mut out = MemSink::new(rt.alloc(), 64, 4, faults).map_err(|_| "memory")?;
-        let mut err = MemSink::new(rt.alloc(), 64, 64, Vec::new(rt.alloc())).map_err(|_| "memory")?;
-        let dumped = run_over(
-            rt.alloc(),
-            "dump job",
-            &mut job,
-            &mut input,
-            &mut out,
-            &mut err,
-            &mut rack,
+        let out = MemSink::new(rt.alloc(), 64, 4, faults).map_err(|_| "memory")?;
+        let dumped = said_over(rt.alloc(), "dump job", &mut job, &mut input, out, &mut rack).ok_or(
+            "memory",
         )?;
         let (code, written) = if call < 5 {
             (21, 4 * (call as usize - 1))
         } else {
             (0, 16)
         };
-        assert_eq!(rt; (carried.code, dumped.code()), (0, code), "write {call}");
-        assert_eq!(rt; out.taken(), &REVERSED[..written], "write {call}");
+        assert_eq!(rt;
+            (carried.code, dumped.code, dumped.out.taken()),
+            (0, code, &REVERSED[..written]),
+            "write {call}"
+        );
     }
     Ok(())
 }
@@ -230,25 +185,17 @@ fn faults_of_an_output(rt: HostRuntime) -> Result<(), Fail> {
 fn damaged_page(rt: HostRuntime) -> Result<(), Fail> {
     let mut rack = MemRack::new(rt.alloc(), Vec::new(rt.alloc()));
     let carried = said(rt.alloc(), "carry job", REVERSAL, INPUT, &mut rack).ok_or("memory")?;
-    assert_eq!(rt; carried.code, 0);
-    if !has_damaged(&mut rack, 2) {
-        return Err(Fail::from("page"));
-    }
+    let damaged = has_damaged(&mut rack, 2);
     let steps = [
-        step("status job", REVERSAL, 20, &[], "bmmc: bad page 2\n"),
-        step("run job", REVERSAL, 20, &[], "bmmc: bad page 2\n"),
-        step("dump job", REVERSAL, 20, &[], "bmmc: bad page 2\n"),
-        step("drop job", REVERSAL, 0, &[], DONE),
-        step(
-            "run job",
-            REVERSAL,
-            0,
-            b"passes 2\nbefore 0\nmoves 16\nbound 24\n",
-            DONE,
-        ),
-        step("dump job", REVERSAL, 0, REVERSED, DONE),
+        refused("status job", 20, "bmmc: bad page 2\n"),
+        refused("run job", 20, "bmmc: bad page 2\n"),
+        refused("dump job", 20, "bmmc: bad page 2\n"),
+        done("drop job", &[]),
+        run_anew(),
+        done("dump job", REVERSED),
     ];
-    assert_eq!(rt; first_wrong(rt.alloc(), &steps, &mut rack), None);
+    let wrong = first_wrong(rt.alloc(), &steps, &mut rack);
+    assert_eq!(rt; (carried.code, damaged, wrong), (0, true, None));
     Ok(())
 }
 
@@ -276,9 +223,14 @@ fn no_room_for_all_records(rt: HostRuntime) -> Result<(), Fail> {
     let large =
         "[shape]\nn = 48\nb = 10\nd = 3\nm = 20\nwidth = 8\n[map]\nkind = \"bit-reversal\"\n";
     let mut rack = UntoldRack::new();
-    let loaded = said(rt.alloc(), "load job", large, &[], &mut rack).ok_or("memory")?;
+    let load = said(rt.alloc(), "load job", large, &[], &mut rack).ok_or("memory")?;
     let ran = said(rt.alloc(), "run job", large, &[], &mut rack).ok_or("memory")?;
-    assert_eq!(rt; loaded.err.taken(), b"bmmc: input short 0\n".as_slice());
-    assert_eq!(rt; ran.err.taken(), b"bmmc: not loaded\n".as_slice());
+    assert_eq!(rt;
+        (load.err.taken(), ran.err.taken()),
+        (
+            b"bmmc: input short 0\n".as_slice(),
+            b"bmmc: not loaded\n".as_slice()
+        )
+    );
     Ok(())
 }

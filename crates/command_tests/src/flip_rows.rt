@@ -1,143 +1,124 @@
 //! What `flip` answers and writes.
 
-use crate::calling::run;
+use crate::calling::{said, said_over};
+use crate::texts::{BYTES, DONE, FLIPPED};
 use bm_memrack::{MemRack, MemSink, MemSource, SureRack, SureSource};
+use bm_named::identity;
 use bm_top::Status;
 use std::test::Fail;
+use test_helpers::{has_moved, pattern};
 
-/// The bytes 0 to 16.
-const INPUT: [u8; 17] = [0, 1, 2, 3, 4, 5, 6, 7, 8, 9, 10, 11, 12, 13, 14, 15, 16];
-
-/// The bytes 15 to 0.
-const REVERSED: [u8; 16] = [15, 14, 13, 12, 11, 10, 9, 8, 7, 6, 5, 4, 3, 2, 1, 0];
-
-/// A line of words, how much of the input there is, and what comes of it.
-#[derive(Clone, Copy)]
-struct Row {
-    words: &'static str,
-    input: usize,
-    status: Status,
-    code: u8,
-    out: usize,
-    err: &'static str,
-}
+/// A line of words, how many bytes of input there are, and what comes of it: the status, its code,
+/// how many bytes of output, and the line on standard error.
+const ROWS: [(&str, usize, Status, u8, usize, &str); 11] = [
+    ("flip 4 1 1 3 1 15", 16, Status::Done, 0, 16, DONE),
+    (
+        "flip 4 3 0 3 1 0",
+        16,
+        Status::JobShape { rule: 3 },
+        6,
+        0,
+        "bmmc: job shape rule 3\n",
+    ),
+    (
+        "flip 53 12 4 28 4 0",
+        16,
+        Status::JobShape { rule: 1 },
+        6,
+        0,
+        "bmmc: job shape rule 1\n",
+    ),
+    (
+        "flip 20 7 2 14 4097 0",
+        16,
+        Status::JobShape { rule: 6 },
+        6,
+        0,
+        "bmmc: job shape rule 6\n",
+    ),
+    (
+        "flip 52 8 0 18 4096 0",
+        16,
+        Status::JobShape { rule: 9 },
+        6,
+        0,
+        "bmmc: job shape rule 9\n",
+    ),
+    ("run", 16, Status::Usage, 2, 0, "bmmc: usage\n"),
+    (
+        "flip 04 1 1 3 1 0",
+        16,
+        Status::Usage,
+        2,
+        0,
+        "bmmc: usage\n",
+    ),
+    (
+        "flip 4 1 1 3 1 16",
+        16,
+        Status::Usage,
+        2,
+        0,
+        "bmmc: usage\n",
+    ),
+    (
+        "flip 4 1 1 3 1 15",
+        15,
+        Status::DataShort { got: 15 },
+        9,
+        0,
+        "bmmc: input short 15\n",
+    ),
+    (
+        "flip 4 1 1 3 1 15",
+        0,
+        Status::DataShort { got: 0 },
+        9,
+        0,
+        "bmmc: input short 0\n",
+    ),
+    (
+        "flip 4 1 1 3 1 15",
+        17,
+        Status::DataLong,
+        10,
+        0,
+        "bmmc: input long\n",
+    ),
+];
 
 #[test]
 fn rows_of_flip(rt: HostRuntime) -> Result<(), Fail> {
-    let rows = [
-        Row {
-            words: "flip 4 1 1 3 1 15",
-            input: 16,
-            status: Status::Done,
-            code: 0,
-            out: 16,
-            err: "bmmc: done\n",
-        },
-        Row {
-            words: "flip 4 3 0 3 1 0",
-            input: 16,
-            status: Status::JobShape { rule: 3 },
-            code: 6,
-            out: 0,
-            err: "bmmc: job shape rule 3\n",
-        },
-        Row {
-            words: "flip 53 12 4 28 4 0",
-            input: 16,
-            status: Status::JobShape { rule: 1 },
-            code: 6,
-            out: 0,
-            err: "bmmc: job shape rule 1\n",
-        },
-        Row {
-            words: "flip 20 7 2 14 4097 0",
-            input: 16,
-            status: Status::JobShape { rule: 6 },
-            code: 6,
-            out: 0,
-            err: "bmmc: job shape rule 6\n",
-        },
-        Row {
-            words: "flip 52 8 0 18 4096 0",
-            input: 16,
-            status: Status::JobShape { rule: 9 },
-            code: 6,
-            out: 0,
-            err: "bmmc: job shape rule 9\n",
-        },
-        Row {
-            words: "run",
-            input: 16,
-            status: Status::Usage,
-            code: 2,
-            out: 0,
-            err: "bmmc: usage\n",
-        },
-        Row {
-            words: "flip 04 1 1 3 1 0",
-            input: 16,
-            status: Status::Usage,
-            code: 2,
-            out: 0,
-            err: "bmmc: usage\n",
-        },
-        Row {
-            words: "flip 4 1 1 3 1 16",
-            input: 16,
-            status: Status::Usage,
-            code: 2,
-            out: 0,
-            err: "bmmc: usage\n",
-        },
-        Row {
-            words: "flip 4 1 1 3 1 15",
-            input: 15,
-            status: Status::DataShort { got: 15 },
-            code: 9,
-            out: 0,
-            err: "bmmc: input short 15\n",
-        },
-        Row {
-            words: "flip 4 1 1 3 1 15",
-            input: 0,
-            status: Status::DataShort { got: 0 },
-            code: 9,
-            out: 0,
-            err: "bmmc: input short 0\n",
-        },
-        Row {
-            words: "flip 4 1 1 3 1 15",
-            input: 17,
-            status: Status::DataLong,
-            code: 10,
-            out: 0,
-            err: "bmmc: input long\n",
-        },
-    ];
-    for row in rows {
-        let (words, line, want) = (row.words, row.err, row.status);
-        let mut input = SureSource::new(INPUT[..row.input.min(17)].to_vec(rt.alloc())?);
+    for (words, input, status, code, out, line) in ROWS {
+        let wanted = &FLIPPED[..out.min(16)];
         let mut rack = SureRack::new(rt.alloc());
-        let mut out = MemSink::new(rt.alloc(), 64, 64, Vec::new(rt.alloc()))
-            .ok()
-            .ok_or("memory")?;
-        let mut err = MemSink::new(rt.alloc(), 64, 64, Vec::new(rt.alloc()))
-            .ok()
-            .ok_or("memory")?;
-        let status = run(rt.alloc(), words, &mut rack, &mut input, &mut out, &mut err)?;
-        assert_eq!(rt; status, want, "{words}");
-        assert_eq!(rt; status.code(), row.code, "{words}");
-        assert_eq!(rt; out.taken(), &REVERSED[..row.out.min(16)], "{words}");
-        assert_eq!(rt; err.taken(), line.as_bytes(), "{words}");
+        let said = said(rt.alloc(), words, "", &BYTES[..input.min(17)], &mut rack).ok_or("memory")?;
+        assert_eq!(rt;
+            (
+                said.status,
+                said.code,
+                said.out.taken() == wanted,
+                said.err.taken() == line.as_bytes()
+            ),
+            (status, code, true, true),
+            "{words}"
+        );
     }
     Ok(())
 }
 
-/// Shapes of every kind: one disk and many, blocks of one record, one load, wide records.
+// Whether each of the 2^n records at x lies at x XOR c.
+fn is_flipped(moved: &[u8], records: &[u8], n: u8, c: u64, width: u16) -> bool {
+    n >= 1 && n <= 52 && has_moved(moved, records, &identity(n).a, c, width)
+}
+
+/// Shapes of every kind: one disk and many, blocks of one record, one load, wide records. Each
+/// source gives five bytes a read, and each sink takes seven a write.
 #[test]
 fn every_record_moves(rt: HostRuntime) -> Result<(), Fail> {
+    let alloc = rt.alloc();
     let shapes = [
-        ("flip 4 1 1 3 1 9", 4u8, 1usize, 9usize),
+        ("flip 4 1 1 3 1 9", 4u8, 1u16, 9u64),
         ("flip 4 1 0 2 1 5", 4, 1, 5),
         ("flip 2 0 0 1 8 3", 2, 8, 3),
         ("flip 6 1 2 4 3 45", 6, 3, 45),
@@ -146,33 +127,18 @@ fn every_record_moves(rt: HostRuntime) -> Result<(), Fail> {
         ("flip 3 0 1 2 300 6", 3, 300, 6),
     ];
     for (words, n, width, c) in shapes {
-        let size = (1usize << n) * width;
-        let mut bytes = Vec::new(rt.alloc());
-        for i in 0..size {
-            bytes.push((i % 251) as u8)?;
-        }
-        let mut input = MemSource::new(bytes, 5, Vec::new(rt.alloc()));
-        let mut rack = MemRack::new(rt.alloc(), Vec::new(rt.alloc()));
-        let mut out = MemSink::new(rt.alloc(), 4096, 7, Vec::new(rt.alloc()))
-            .ok()
-            .ok_or("memory")?;
-        let mut err = MemSink::new(rt.alloc(), 64, 1, Vec::new(rt.alloc()))
-            .ok()
-            .ok_or("memory")?;
-        let status = run(rt.alloc(), words, &mut rack, &mut input, &mut out, &mut err)?;
-        assert_eq!(rt; status, Status::Done, "{words}");
-        assert_eq!(rt; err.taken(), b"bmmc: done\n".as_slice(), "{words}");
-        assert_eq!(rt; out.taken().len(), size, "{words}");
-        for at in 0..size {
-            let from = ((at / width) ^ c)
-                .wrapping_mul(width)
-                .wrapping_add(at % width);
-            assert_eq!(rt;
-                out.taken().get(at).copied(),
-                Some((from % 251) as u8),
-                "{words}"
-            );
-        }
+        let records = pattern(alloc, (1usize << n) * usize::from(width)).ok_or("memory")?;
+        let mut job = SureSource::new(Vec::new(alloc));
+        let mut input = MemSource::new(records.clone()?, 5, Vec::new(alloc));
+        let out = MemSink::new(alloc, 4096, 7, Vec::new(alloc)).map_err(|_| "memory")?;
+        let mut rack = MemRack::new(alloc, Vec::new(alloc));
+        let said = said_over(alloc, words, &mut job, &mut input, out, &mut rack).ok_or("memory")?;
+        let moved = is_flipped(said.out.taken(), &records, n, c, width);
+        assert_eq!(rt;
+            (said.status, said.err.taken(), moved),
+            (Status::Done, DONE.as_bytes(), true),
+            "{words}"
+        );
     }
     Ok(())
 }
@@ -181,23 +147,13 @@ fn every_record_moves(rt: HostRuntime) -> Result<(), Fail> {
 fn a_second_flip_finds_disks(rt: HostRuntime) -> Result<(), Fail> {
     let mut rack = SureRack::new(rt.alloc());
     for (want, size) in [(Status::Done, 16), (Status::Exists, 0)] {
-        let mut input = SureSource::new(INPUT[..16].to_vec(rt.alloc())?);
-        let mut out = MemSink::new(rt.alloc(), 64, 64, Vec::new(rt.alloc()))
-            .ok()
-            .ok_or("memory")?;
-        let mut err = MemSink::new(rt.alloc(), 64, 64, Vec::new(rt.alloc()))
-            .ok()
-            .ok_or("memory")?;
-        let status = run(
-            rt.alloc(),
-            "flip 4 1 1 3 1 15",
-            &mut rack,
-            &mut input,
-            &mut out,
-            &mut err,
+        let said = said(rt.alloc(), "flip 4 1 1 3 1 15", "", &BYTES[..16], &mut rack).ok_or(
+            "memory",
         )?;
-        assert_eq!(rt; status, want);
-        assert_eq!(rt; out.taken(), &REVERSED[..size.min(16)]);
+        assert_eq!(rt;
+            (said.status, said.out.taken()),
+            (want, &FLIPPED[..size.min(16)])
+        );
     }
     Ok(())
 }

@@ -1,56 +1,41 @@
 //! Commands over more records.
 
-use crate::calling::run_over;
+use crate::calling::{Answer, job_of, said_over};
+use crate::texts::DONE;
 use bm_memrack::{MemSink, SureRack, SureSource};
 use bm_rack::Rack;
 use std::alloc::Global;
 use std::test::Fail;
+use test_helpers::{counted, is_transposed};
 
-// The numbers 0 to 2^20 - 1 as records of 8 bytes.
-fn counted(alloc: Global) -> Option<Vec<u8>> {
-    let mut bytes = Vec::with_capacity(alloc, 8 << 20).ok()?;
-    for x in 0..1u64 << 20 {
-        bytes.extend_from_slice(&x.to_le_bytes()).ok()?;
-    }
-    Some(bytes)
+/// The most bytes that are carried here.
+const MOST: usize = 8 << 20;
+
+// What `carry` says of a job over this rack. Nothing where memory is refused.
+fn carried<R: Rack>(alloc: Global, job: &str, input: Vec<u8>, rack: &mut R) -> Option<Answer> {
+    let mut job = job_of(alloc, job)?;
+    let mut input = SureSource::new(input);
+    let out = MemSink::new(alloc, MOST, MOST, Vec::new(alloc)).ok()?;
+    said_over(alloc, "carry job", &mut job, &mut input, out, rack)
 }
 
-// Whether record 1024 * j + i is the number 1024 * i + j.
-fn is_transposed(bytes: &[u8]) -> bool {
-    for (y, record) in bytes.chunks_exact(8).enumerate() {
-        let (i, j) = (y as u64 % 1024, y as u64 / 1024);
-        if record != (1024 * i + j).to_le_bytes().as_slice() {
-            return false;
-        }
-    }
-    bytes.len() == 8 << 20
-}
-
-/// A matrix of 1024 rows and columns on four disks, in 64 loads.
+/// A matrix of 1024 rows and columns on four disks, in 64 loads: two passes of 4096 transfers, and
+/// 4096 for load and dump.
 #[test]
 fn transpose(rt: HostRuntime) -> Result<(), Fail> {
-    let text =
+    let job =
         "[shape]\nn = 20\nb = 7\nd = 2\nm = 14\nwidth = 8\n[map]\nkind = \"transpose\"\np = 10\n";
-    let mut job = SureSource::new(text.as_bytes().to_vec(rt.alloc())?);
-    let mut input = SureSource::new(counted(rt.alloc()).ok_or("memory")?);
+    let input = counted(rt.alloc(), 1 << 20).ok_or("memory")?;
     let mut rack = SureRack::new(rt.alloc());
-    let mut out = MemSink::new(rt.alloc(), 8 << 20, 8 << 20, Vec::new(rt.alloc())).map_err(
-        |_| "memory",
-    )?;
-    let mut err = MemSink::new(rt.alloc(), 64, 64, Vec::new(rt.alloc())).map_err(|_| "memory")?;
-    run_over(
-        rt.alloc(),
-        "carry job",
-        &mut job,
-        &mut input,
-        &mut out,
-        &mut err,
-        &mut rack,
-    )?;
-    assert_eq!(rt; err.taken(), b"bmmc: done\n".as_slice());
-    assert!(rt; is_transposed(out.taken()));
-    // Two passes of 4096 transfers, and 4096 for load and dump.
-    assert_eq!(rt; rack.rows(), 8192 + 4096);
+    let said = carried(rt.alloc(), job, input, &mut rack).ok_or("memory")?;
+    assert_eq!(rt;
+        (
+            said.err.taken(),
+            is_transposed(said.out.taken()),
+            rack.rows()
+        ),
+        (DONE.as_bytes(), true, 8192 + 4096)
+    );
     Ok(())
 }
 
@@ -63,28 +48,9 @@ fn wide(alloc: Global) -> Option<Vec<u8>> {
     Some(bytes)
 }
 
-/// Wide records in Gray code: the record at x goes to x XOR x / 2, in one pass.
-#[test]
-fn wide_records(rt: HostRuntime) -> Result<(), Fail> {
-    let text = "[shape]\nn = 8\nb = 1\nd = 1\nm = 4\nwidth = 4096\n[map]\nkind = \"gray\"\n";
-    let mut job = SureSource::new(text.as_bytes().to_vec(rt.alloc())?);
-    let mut input = SureSource::new(wide(rt.alloc()).ok_or("memory")?);
-    let mut rack = SureRack::new(rt.alloc());
-    let mut out = MemSink::new(rt.alloc(), 256 << 12, 256 << 12, Vec::new(rt.alloc())).map_err(
-        |_| "memory",
-    )?;
-    let mut err = MemSink::new(rt.alloc(), 64, 64, Vec::new(rt.alloc())).map_err(|_| "memory")?;
-    run_over(
-        rt.alloc(),
-        "carry job",
-        &mut job,
-        &mut input,
-        &mut out,
-        &mut err,
-        &mut rack,
-    )?;
-    assert_eq!(rt; err.taken(), b"bmmc: done\n".as_slice());
-    for (at, byte) in out.taken().iter().enumerate() {
+// Whether such records lie in Gray code: at x XOR x / 2 that with the number x.
+fn is_in_gray_code(bytes: &[u8]) -> bool {
+    for (at, byte) in bytes.iter().enumerate() {
         let to = at >> 12;
         let from = to
             ^ (to >> 1)
@@ -95,9 +61,26 @@ fn wide_records(rt: HostRuntime) -> Result<(), Fail> {
             ^ (to >> 6)
             ^ (to >> 7);
         if usize::from(*byte) != from {
-            return Err(Fail::from("record"));
+            return false;
         }
     }
-    assert_eq!(rt; rack.rows(), 128 + 128);
+    bytes.len() == 256 << 12
+}
+
+/// Wide records in Gray code, in one pass of 128 transfers, and 128 for load and dump.
+#[test]
+fn wide_records(rt: HostRuntime) -> Result<(), Fail> {
+    let job = "[shape]\nn = 8\nb = 1\nd = 1\nm = 4\nwidth = 4096\n[map]\nkind = \"gray\"\n";
+    let input = wide(rt.alloc()).ok_or("memory")?;
+    let mut rack = SureRack::new(rt.alloc());
+    let said = carried(rt.alloc(), job, input, &mut rack).ok_or("memory")?;
+    assert_eq!(rt;
+        (
+            said.err.taken(),
+            is_in_gray_code(said.out.taken()),
+            rack.rows()
+        ),
+        (DONE.as_bytes(), true, 128 + 128)
+    );
     Ok(())
 }

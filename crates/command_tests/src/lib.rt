@@ -7,6 +7,12 @@ mod calling;
 #[cfg(test)]
 mod carry_rows;
 #[cfg(test)]
+mod detect_round_trips;
+#[cfg(test)]
+mod detect_rows;
+#[cfg(test)]
+mod drill_rows;
+#[cfg(test)]
 mod fault_rows;
 #[cfg(test)]
 mod flip_rows;
@@ -15,6 +21,12 @@ mod job_rows;
 #[cfg(test)]
 mod large_rows;
 #[cfg(test)]
+mod map_rows;
+#[cfg(test)]
 mod session_rows;
 #[cfg(test)]
+mod steps;
+#[cfg(test)]
 mod texts;
+#[cfg(test)]
+mod transform_rows;

@@ -1,4 +1,4 @@
-//! Job texts, inputs and outputs of worked examples.
+//! Job texts, inputs, outputs and lines of worked examples.
 
 /// The bit reversal of sixteen records of a byte, eight in memory, on two disks in blocks of two.
 pub const REVERSAL: &str =
@@ -30,3 +30,12 @@ pub const REVERSED: &[u8] = &[0, 8, 4, 12, 2, 10, 6, 14, 1, 9, 5, 13, 3, 11, 7, 
 
 /// The same in Gray code: the byte at x moved to x XOR x / 2.
 pub const GRAYED: &[u8] = &[0, 1, 3, 2, 7, 6, 4, 5, 15, 14, 12, 13, 8, 9, 11, 10];
+
+/// The bytes 15 to 0.
+pub const FLIPPED: &[u8] = &[15, 14, 13, 12, 11, 10, 9, 8, 7, 6, 5, 4, 3, 2, 1, 0];
+
+/// The line of a command that is done.
+pub const DONE: &str = "bmmc: done\n";
+
+/// The line of a command whose rack failed.
+pub const RACK_FAULT: &str = "bmmc: rack fault\n";

@@ -1,6 +1,6 @@
 //! Lists of four addresses, in two loads of two.
 
-ghost use Rattle.std.specs.Prelude.{◌≡◌, IsTrue, Some};
+ghost use Rattle.std.specs.Prelude.{◌≡◌, Some};
 ghost use Rattle.bm_base.specs.Shape.{dims_of};
 
 use bm_base::{Area, Shape};
@@ -9,23 +9,11 @@ use bm_detect::{DetectError, detect};
 use bm_gf2::Affine;
 use bm_memrack::SureRack;
 use bm_named::{from_rows, identity, with_complement};
-use bm_rack::{Found, Rack};
+use bm_rack::Rack;
 use bm_stripe::write_load;
 use std::alloc::Global;
 use std::test::Fail;
-
-/// Makes the disks of a shape and attaches them.
-fn has_disks<R: Rack>(rack: &mut R, shape: &Shape) -> bool
-    ensures { IsTrue result → (R.view rack.new).attached ≡ Some (dims_of shape.now) }
-{
-    if rack.create(&shape.dims()).is_err() {
-        return false;
-    }
-    match rack.attach(&shape.dims()) {
-        Ok(Found::Ready) => true,
-        _ => false,
-    }
-}
+use test_helpers::has_disks;
 
 /// Writes a load of two small numbers.
 fn has_written<R: Rack>(rack: &mut R, shape: &Shape, load: u64, one: u8, other: u8) -> bool

@@ -1,82 +1,17 @@
 //! Files of the system, with each call counted, the telling ones noted, and one or more of them
-//! failing.
+//! failing, or the disk full.
 
 ghost use Rattle.std.specs.Io.{WritesAtMost};
 
+use crate::call_notes::Notes;
 use bm_filerack::LockFile;
 use std::alloc::{Alloc, Allocator, Global};
-use std::cell::{Cell, RefCell};
 use std::env::{Env, FillError};
 use std::fs::{File, Metadata, OpenFile, OpenOptions};
 use std::io;
 use std::io::{ErrorKind, Read, Seek, SeekFrom, Write};
 use std::os::unix::fs::FileExt;
 use std::rt::Files;
-
-/// What was called, a line for each call.
-#[derive(Drop)]
-pub struct Notes {
-    alloc: Global,
-    text: RefCell<String>,
-    left: Cell<u64>,
-    stops: Cell<bool>,
-}
-
-impl Notes {
-    /// Nothing was called, and no call fails.
-    pub fn new(alloc: Global) -> Notes {
-        Notes {
-            alloc,
-            text: RefCell::new(String::new(alloc)),
-            left: Cell::new(0),
-            stops: Cell::new(false),
-        }
-    }
-
-    /// Lets the call of this number from now on fail; none where it is 0.
-    pub fn fail(&self, number: u64) {
-        self.left.set(number);
-        self.stops.set(false);
-    }
-
-    /// Lets the call of this number from now on fail, and each after it, as where a program is
-    /// stopped; none where it is 0.
-    pub fn stop(&self, number: u64) {
-        self.left.set(number);
-        self.stops.set(true);
-    }
-
-    /// What was called since this was asked last.
-    pub fn take(&self) -> String {
-        match self.text.try_replace(String::new(self.alloc)) {
-            Ok(text) => text,
-            Err(_) => String::new(self.alloc),
-        }
-    }
-
-    // Counts a call, which fails where it is its turn.
-    fn count(&self) -> io::Result<()> {
-        let left = self.left.get();
-        if left == 1 {
-            if !self.stops.get() {
-                self.left.set(0);
-            }
-            Err(io::Error::from(ErrorKind::Other))
-        } else {
-            self.left.set(left.saturating_sub(1));
-            Ok(())
-        }
-    }
-
-    // Notes a call, and counts it.
-    fn note(&self, line: String) -> io::Result<()> {
-        if let Ok(mut text) = self.text.try_borrow_mut() {
-            text.push_str(line.as_str())?;
-            text.push_str("\n")?;
-        }
-        self.count()
-    }
-}
 
 /// The system's files, which note what is called, and the words of a program's call.
 #[derive(Drop)]
@@ -107,7 +42,7 @@ impl<'a> Alloc for Watched<'a> {
     type A = Global;
 
     fn alloc(&self) -> Global {
-        self.notes.alloc
+        self.notes.alloc()
     }
 }
 
@@ -154,10 +89,11 @@ impl<'a> Files for Watched<'a> {
     type Dir = File;
 
     fn open_file(&self, how: &OpenOptions, path: &str) -> io::Result<WatchedFile<'a>> {
-        let alloc = self.notes.alloc;
+        let alloc = self.notes.alloc();
         let name = String::from_str(alloc, path)?;
         if how.asks_create_new() {
             self.notes.note(format!(in alloc; "make {name}")?)?;
+            self.notes.take_room()?;
         } else {
             self.notes.note(format!(in alloc; "open {name}")?)?;
         }
@@ -193,7 +129,7 @@ impl<'a> Files for Watched<'a> {
 
     fn remove_file(&self, path: &str) -> io::Result<()> {
         self.notes
-            .note(format!(in self.notes.alloc; "remove {path}")?)?;
+            .note(format!(in self.notes.alloc(); "remove {path}")?)?;
         self.rt.remove_file(path)
     }
 
@@ -214,12 +150,12 @@ impl<'a> WatchedFile<'a> {
     // Notes a call on the file.
     fn note(&self, call: &str) -> io::Result<()> {
         self.notes
-            .note(format!(in self.notes.alloc; "{call} {}", self.name)?)
+            .note(format!(in self.notes.alloc(); "{call} {}", self.name)?)
     }
 
     // Notes a call on bytes of the file.
     fn note_bytes(&self, call: &str, offset: u64, length: usize) -> io::Result<()> {
-        self.notes.note(format!(in self.notes.alloc; "{call} {} {offset} {length}", self.name)?)
+        self.notes.note(format!(in self.notes.alloc(); "{call} {} {offset} {length}", self.name)?)
     }
 }
 
@@ -231,6 +167,7 @@ impl<'a> Read for WatchedFile<'a> {
 
 impl<'a> Write for WatchedFile<'a> {
     fn write(&mut self, bytes: &[u8]) -> io::Result<usize> {
+        self.notes.take_room()?;
         self.file.write(bytes)
     }
 
@@ -251,18 +188,27 @@ impl<'a> OpenFile for WatchedFile<'a> {
     }
 
     fn set_len(&self, size: u64) -> io::Result<()> {
-        self.notes.note(format!(in self.notes.alloc; "length {} {size}", self.name)?)?;
+        self.notes.note(format!(in self.notes.alloc(); "length {} {size}", self.name)?)?;
+        self.notes.take_room()?;
         self.file.set_len(size)
     }
 
     fn sync_all(&self) -> io::Result<()> {
         self.note("sync")?;
-        self.file.sync_all()
+        self.notes.take_room()?;
+        if self.notes.passes_syncs() {
+            self.file.sync_all()?;
+        }
+        Ok(())
     }
 
     fn sync_data(&self) -> io::Result<()> {
         self.note("data")?;
-        self.file.sync_data()
+        self.notes.take_room()?;
+        if self.notes.passes_syncs() {
+            self.file.sync_data()?;
+        }
+        Ok(())
     }
 }
 
@@ -274,6 +220,10 @@ impl<'a> FileExt for WatchedFile<'a> {
 
     fn write_at(&self, bytes: &[u8], offset: u64) -> io::Result<usize> {
         self.note_bytes("write", offset, bytes.len())?;
+        if let Err(full) = self.notes.take_room() {
+            let _ = self.file.write_at(&bytes[..bytes.len() / 2], offset)?;
+            return Err(full);
+        }
         self.file.write_at(bytes, offset)
     }
 }

@@ -3,8 +3,10 @@
 
 #![tactic(auto)]
 
+mod call_notes;
 mod double;
 mod folders;
 
-pub use double::{Notes, Watched, WatchedFile};
+pub use call_notes::Notes;
+pub use double::{Watched, WatchedFile};
 pub use folders::enter_empty_folder;

@@ -34,8 +34,8 @@ pub fn words_of(alloc: Global, line: &str) -> Result<Vec<String>, AllocError> {
     Ok(words)
 }
 
-/// What a command says over this rack, where its job is the file `job.toml`, with this input and
-/// room for so much output. Nothing where memory is refused.
+/// What a command says over this rack, where its job is the file that its last word names, with this
+/// input and room for so much output. Nothing where memory is refused.
 pub fn said_of<R: Rack>(
     rt: &HostRuntime,
     line: &str,
@@ -45,7 +45,8 @@ pub fn said_of<R: Rack>(
 ) -> Option<Answer> {
     let alloc = rt.alloc();
     let words = words_of(alloc, line).ok()?;
-    let mut job = FileSource::new(rt, "job.toml");
+    let path = words.last()?;
+    let mut job = FileSource::new(rt, path.as_str());
     let mut input = SureSource::new(input);
     let mut out = MemSink::new(alloc, room, 1 << 20, Vec::new(alloc)).ok()?;
     let mut err = MemSink::new(alloc, 64, 64, Vec::new(alloc)).ok()?;

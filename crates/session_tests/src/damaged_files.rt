@@ -54,32 +54,34 @@ fn change_files(rt: &HostRuntime, what: Change) -> io::Result<()> {
     }
 }
 
+/// What is done to the files, and the status after it.
+const CASES: [(Change, u8); 19] = [
+    (Change::Nothing, 0),
+    (Change::Page(0), 20),
+    (Change::Page(1), 15),
+    (Change::Page(2), 20),
+    (Change::Page(3), 0),
+    (Change::Gone("bmmc-disk-01"), 13),
+    (Change::Gone("bmmc-slate"), 13),
+    (Change::Folder("bmmc-disk-00"), 13),
+    (Change::Folder("bmmc-slate"), 13),
+    (Change::Device("bmmc-disk-00", "/dev/zero"), 13),
+    (Change::Device("bmmc-slate", "/dev/null"), 13),
+    (Change::Length("bmmc-disk-01", 23), 13),
+    (Change::Length("bmmc-disk-01", 25), 13),
+    (Change::Length("bmmc-slate", 0), 13),
+    (Change::Extra("bmmc-disk-02"), 13),
+    (Change::Gone("job.toml"), 3),
+    (Change::Folder("job.toml"), 3),
+    (Change::Device("job.toml", "/dev/null"), 5),
+    (Change::Device("job.toml", "/dev/zero"), 4),
+];
+
 /// A run over files that were damaged after another run, and a status after it.
 #[test]
 fn damage_is_told(rt: HostRuntime) -> Result<(), Fail> {
     enter_empty_folder(&rt, "damage_is_told")?;
-    let cases = [
-        (Change::Nothing, 0),
-        (Change::Page(0), 20),
-        (Change::Page(1), 15),
-        (Change::Page(2), 20),
-        (Change::Page(3), 0),
-        (Change::Gone("bmmc-disk-01"), 13),
-        (Change::Gone("bmmc-slate"), 13),
-        (Change::Folder("bmmc-disk-00"), 13),
-        (Change::Folder("bmmc-slate"), 13),
-        (Change::Device("bmmc-disk-00", "/dev/zero"), 13),
-        (Change::Device("bmmc-slate", "/dev/null"), 13),
-        (Change::Length("bmmc-disk-01", 23), 13),
-        (Change::Length("bmmc-disk-01", 25), 13),
-        (Change::Length("bmmc-slate", 0), 13),
-        (Change::Extra("bmmc-disk-02"), 13),
-        (Change::Gone("job.toml"), 3),
-        (Change::Folder("job.toml"), 3),
-        (Change::Device("job.toml", "/dev/null"), 5),
-        (Change::Device("job.toml", "/dev/zero"), 4),
-    ];
-    for (what, want) in cases {
+    for (what, want) in CASES {
         clear(&rt);
         let mut rack = FileRack::new(&rt, rt.alloc()).map_err(|_| "memory")?;
         let before = loaded(&rt, &mut rack).ok_or("memory")?;

@@ -7,9 +7,13 @@ mod calling;
 #[cfg(test)]
 mod damaged_files;
 #[cfg(test)]
+mod full_disk;
+#[cfg(test)]
 mod job_files;
 #[cfg(test)]
 mod large_carry;
+#[cfg(test)]
+mod large_lists;
 #[cfg(test)]
 mod program;
 #[cfg(test)]

@@ -19,51 +19,52 @@ struct Case {
 
 const REPORT: &[u8] = b"passes 2\nbefore 2\nmoves 0\nbound 24\n";
 
+const CASES: [Case; 5] = [
+    Case {
+        line: "bmmc carry some.toml",
+        code: 0,
+        out: REVERSED,
+        err: "bmmc: done\n",
+        begins: "open some.toml\nmake bmmc-disk-00\n",
+    },
+    Case {
+        line: "bmmc run some.toml",
+        code: 0,
+        out: REPORT,
+        err: "bmmc: done\n",
+        begins: "open some.toml\nopen bmmc-slate\n",
+    },
+    Case {
+        line: "bmmc run other.toml",
+        code: 3,
+        out: &[],
+        err: "bmmc: job fault\n",
+        begins: "open other.toml\n",
+    },
+    Case {
+        line: "bmmc walk some.toml",
+        code: 2,
+        out: &[],
+        err: "bmmc: usage\n",
+        begins: "",
+    },
+    Case {
+        line: "bmmc",
+        code: 2,
+        out: &[],
+        err: "bmmc: usage\n",
+        begins: "",
+    },
+];
+
 /// The job file is that of the last word, the output goes to the output, and the line to standard
 /// error. Words that name no job open no file.
 #[test]
 fn the_program_is_run(rt: HostRuntime) -> Result<(), Fail> {
     enter_empty_folder(&rt, "the_program_is_run")?;
-    let cases = [
-        Case {
-            line: "bmmc carry some.toml",
-            code: 0,
-            out: REVERSED,
-            err: "bmmc: done\n",
-            begins: "open some.toml\nmake bmmc-disk-00\n",
-        },
-        Case {
-            line: "bmmc run some.toml",
-            code: 0,
-            out: REPORT,
-            err: "bmmc: done\n",
-            begins: "open some.toml\nopen bmmc-slate\n",
-        },
-        Case {
-            line: "bmmc run other.toml",
-            code: 3,
-            out: &[],
-            err: "bmmc: job fault\n",
-            begins: "open other.toml\n",
-        },
-        Case {
-            line: "bmmc walk some.toml",
-            code: 2,
-            out: &[],
-            err: "bmmc: usage\n",
-            begins: "",
-        },
-        Case {
-            line: "bmmc",
-            code: 2,
-            out: &[],
-            err: "bmmc: usage\n",
-            begins: "",
-        },
-    ];
     fs::write(&rt, "some.toml", REVERSAL)?;
     fs::write(&rt, "input", INPUT)?;
-    for case in cases {
+    for case in CASES {
         let notes = Notes::new(rt.alloc());
         let files = Watched::called(&rt, &notes, case.line);
         let input = File::open(&rt, "input")?;
@@ -71,20 +72,23 @@ fn the_program_is_run(rt: HostRuntime) -> Result<(), Fail> {
         let error = File::create(&rt, "error")?;
         let end = run(&files, input, output, error);
         let (output, error) = (fs::read(&rt, "output")?, fs::read(&rt, "error")?);
-        let line = case.line;
-        assert_eq!(rt;
-            (exit_status(&end), output.as_slice()),
-            (case.code, case.out),
-            "{line}"
-        );
-        assert_eq!(rt; error.as_slice(), case.err.as_bytes(), "{line}");
         let text = notes.take();
-        let as_wanted = if case.begins.is_empty() {
+        let begins = if case.begins.is_empty() {
             text.is_empty()
         } else {
             text.starts_with(case.begins)
         };
-        assert!(rt; as_wanted, "{line}");
+        assert_eq!(rt;
+            (
+                exit_status(&end),
+                output.as_slice(),
+                error.as_slice(),
+                begins
+            ),
+            (case.code, case.out, case.err.as_bytes(), true),
+            "{}",
+            case.line
+        );
     }
     Ok(())
 }
