@@ -1,0 +1,172 @@
+-- A mirror shows one rack: what a call did to that rack, the mirror did.
+use Rattle.std.proofs.Common.{◌≡◌, inl, inr, ℕ, Bool, true, false, IsTrue, IsFalse, if◌then◌else◌, List, Option, None, Result}
+use Rattle.std.proofs.Common.{sym, ◌∙◌, ap, refl, subst}
+use Rattle.std.proofs.lemmas.Bool.{cases_Bool}
+use Rattle.bm_base.specs.declared.dims.Dims.{Dims}
+use Rattle.bm_base.specs.declared.fault.Failed.{Failed}
+use Rattle.bm_base.specs.Contents.{Contents, RackUnit, block_unit, unit_at, block_at}
+use Rattle.bm_rack.specs.RackView.{RackView}
+use Rattle.bm_rack.specs.Frames.{ChangesOnly}
+use Rattle.bm_rack.specs.declared.rack.Found.{Found}
+use Rattle.bm_rack.specs.declared.rack.AttachError.{AttachError}
+use Rattle.bm_rack.specs.Calls.{RowWritten, Synced, InRow, AttachAnswer, attached_after, AttachDone}
+use Rattle.bm_rack.specs.Untold.{untold_contents}
+use Rattle.bm_mirror.specs.TwoSides.{TwoSides, preferred, shown, IsLevel, IsMirror}
+use Rattle.bm_mirror.specs.SideCalls.{IsSettled}
+use Rattle.bm_mirror.specs.Attaching.{HoldsTheSame, AttachedSides}
+use Rattle.bm_mirror.specs.Consistent.{told_same, told_is, untold_is}
+
+-- a unit of what is shown
+told_unit : (told : Bool) (c d z : Contents) (u : RackUnit) → unit_at c u ≡ unit_at d u
+    → unit_at (if told then c else z) u ≡ unit_at (if told then d else z) u
+told_unit true c d z u same = same
+told_unit false c d z u same = refl
+
+told_flag : (told : Bool) (c d z : RackUnit → Bool) (u : RackUnit) → c u ≡ d u
+    → (if told then c else z) u ≡ (if told then d else z) u
+told_flag true c d z u same = same
+told_flag false c d z u same = refl
+
+-- whether a unit of what is shown is dirty
+pub told_clean : (told : Bool) (d : RackUnit → Bool) (u : RackUnit) → d u ≡ false → (if told then d else (λ w. false)) u ≡ false
+told_clean true d u clean = clean
+told_clean false d u clean = refl
+
+module _ (ts tc : Bool) (a a' : Option Dims) (f m p s f' m' p' s' : ℕ) (v w : RackView) where
+  pub shown_changes : (P : RackUnit → Type 0) → a' ≡ a → ChangesOnly P v w
+      → ChangesOnly P (shown ts tc v a f m p s) (shown ts tc w a' f' m' p' s')
+  shown_changes P same x = record {
+    stands = told_same ts w.stands v.stands None (λ _. x.stands);
+    attached = same;
+    contents = λ u h. told_unit tc w.contents v.contents untold_contents u (x.contents u h);
+    dirty = λ u h. told_flag tc w.dirty v.dirty (λ u. false) u (x.dirty u h);
+  }
+
+  pub shown_row_written : {T : Type 0} (rc : Bool) (dims : Dims) (places : List (Option ℕ)) (bytes : List ℕ) (r : Result T Failed)
+      → (IsTrue tc → IsTrue rc) → a' ≡ a → RowWritten rc dims v places bytes r w
+      → RowWritten tc dims (shown ts tc v a f m p s) places bytes r (shown ts tc w a' f' m' p' s')
+  shown_row_written rc dims places bytes r tells same x = record {
+    only = shown_changes (InRow places) same x.only;
+    taking = λ told ok disk place below is.
+        ap (λ c. block_at c disk place) (told_is tc w.contents untold_contents told) ∙ x.taking (tells told) ok disk place below is;
+    own_dirty = λ told disk place below is.
+        ap (λ (d : RackUnit → Bool). d (block_unit disk place)) (told_is tc w.dirty (λ u. false) told)
+        ∙ x.own_dirty (tells told) disk place below is;
+  }
+
+  pub shown_synced : {T : Type 0} (r : Result T Failed) → a' ≡ a → Synced v r w
+      → Synced (shown ts tc v a f m p s) r (shown ts tc w a' f' m' p' s')
+  shown_synced r same x = record {
+    stands = told_same ts w.stands v.stands None (λ _. x.stands);
+    contents = told_same tc w.contents v.contents untold_contents (λ _. x.contents);
+    attached = same;
+    clean = λ ok u. told_clean tc w.dirty u (x.clean ok u);
+    failed = λ bad. told_same tc w.dirty v.dirty (λ u. false) (λ _. x.failed bad);
+  }
+
+-- a mirror shows two level racks alike
+pub shown_level : (ts tc : Bool) (v w : RackView) (a : Option Dims) (f m p s : ℕ) → IsLevel ts tc v w
+    → shown ts tc v a f m p s ≡ shown ts tc w a f m p s
+shown_level ts tc v w a f m p s k =
+    let look : Option Dims → Contents → (RackUnit → Bool) → RackView = λ x c d. record {
+      stands = x;
+      contents = c;
+      dirty = d;
+      attached = a;
+      faults = f;
+      moves = m;
+      pages = p;
+      syncs = s;
+      steady = false;
+      stopping = false;
+    } in
+    let z : RackUnit → Bool = λ u. false in
+    ap (λ x. look x (if tc then v.contents else untold_contents) (if tc then v.dirty else z)) (told_same ts v.stands w.stands None k.stands)
+    ∙ ap (λ c. look (if ts then w.stands else None) c (if tc then v.dirty else z))
+    (told_same tc v.contents w.contents untold_contents k.contents)
+    ∙ ap (λ d. look (if ts then w.stands else None) (if tc then w.contents else untold_contents) d) (told_same tc v.dirty w.dirty z k.dirty)
+
+-- a mirror whose left side is in shows that side
+pub shown_left : (ts tc : Bool) (t : TwoSides) (a : Option Dims) (f m p s : ℕ) → IsTrue t.sides.left
+    → shown ts tc (preferred t) a f m p s ≡ shown ts tc t.left a f m p s
+shown_left ts tc t a f m p s holds = ap (λ v. shown ts tc v a f m p s) (told_is t.sides.left t.left t.right holds)
+
+-- and one whose right side is in that one, as the two are level where both are in
+pub shown_right : (ts tc : Bool) (t : TwoSides) (a : Option Dims) (f m p s : ℕ)
+    → (IsTrue t.sides.left → IsTrue t.sides.right → IsLevel ts tc t.left t.right) → IsTrue t.sides.right
+    → shown ts tc (preferred t) a f m p s ≡ shown ts tc t.right a f m p s
+shown_right ts tc t a f m p s level holds = elim (cases_Bool t.sides.left) [
+  | inl first ↦ shown_left ts tc t a f m p s first ∙ shown_level ts tc t.left t.right a f m p s (level first holds)
+  | inr fails ↦ ap (λ v. shown ts tc v a f m p s) (untold_is t.sides.left t.left t.right fails)
+]
+
+-- what a call did to each side that was in, and answered of it, the mirror did and answered
+pub by_settled : {T : Type 0} (ts tc : Bool) (old new : TwoSides) (a a' : Option Dims) (f m p s f' m' p' s' : ℕ)
+    (x y r answer : Result T Failed) (Q : RackView → Result T Failed → RackView → Type 0)
+    → answer ≡ r → IsMirror ts tc old a → IsSettled x y r old.sides new.sides
+    → (IsTrue old.sides.left → Q (shown ts tc old.left a f m p s) x (shown ts tc new.left a' f' m' p' s'))
+    → (IsTrue old.sides.right → Q (shown ts tc old.right a f m p s) y (shown ts tc new.right a' f' m' p' s'))
+    → Q (shown ts tc (preferred old) a f m p s) answer (shown ts tc (preferred new) a' f' m' p' s')
+by_settled {T} ts tc old new a a' f m p s f' m' p' s' x y r answer Q same k settled left right =
+    subst (λ z. Q (shown ts tc (preferred old) a f m p s) z (shown ts tc (preferred new) a' f' m' p' s')) (sym same)
+    (elim (cases_Bool new.sides.left) [
+      | inl holds ↦
+          let was : IsTrue old.sides.left = (settled.left_answers holds).0 in
+          subst (λ v. Q v r (shown ts tc (preferred new) a' f' m' p' s')) (sym (shown_left ts tc old a f m p s was))
+          (subst (λ w. Q (shown ts tc old.left a f m p s) r w) (sym (shown_left ts tc new a' f' m' p' s' holds))
+          (subst (λ z. Q (shown ts tc old.left a f m p s) z (shown ts tc new.left a' f' m' p' s')) (sym (settled.left_answers holds).1)
+          (left was)))
+      | inr fails ↦
+          let was : IsTrue old.sides.right = settled.right_in (settled.right_answers fails).0 in
+          let is : shown ts tc (preferred new) a' f' m' p' s' ≡ shown ts tc new.right a' f' m' p' s' =
+          ap (λ v. shown ts tc v a' f' m' p' s') (untold_is new.sides.left new.left new.right fails) in
+          subst (λ v. Q v r (shown ts tc (preferred new) a' f' m' p' s')) (sym (shown_right ts tc old a f m p s k.level was))
+          (subst (λ w. Q (shown ts tc old.right a f m p s) r w) (sym is)
+          (subst (λ z. Q (shown ts tc old.right a f m p s) z (shown ts tc new.right a' f' m' p' s'))
+          (sym (settled.right_answers fails).1) (right was)))
+    ])
+
+-- a mirror shows two racks that hold the same alike
+pub shown_held : (ts tc : Bool) (a a' : Option Dims) (f m p s f' m' p' s' : ℕ) (v w : RackView) → HoldsTheSame v w
+    → HoldsTheSame (shown ts tc v a f m p s) (shown ts tc w a' f' m' p' s')
+shown_held ts tc a a' f m p s f' m' p' s' v w x = record {
+  stands = told_same ts w.stands v.stands None (λ _. x.stands);
+  contents = told_same tc w.contents v.contents untold_contents (λ _. x.contents);
+  dirty = told_same tc w.dirty v.dirty (λ u. false) (λ _. x.dirty);
+}
+
+-- a mirror shows the same after a call that took sides out and changed on none what it holds
+pub mirror_held : (ts tc : Bool) (old new : TwoSides) (a a' : Option Dims) (f m p s f' m' p' s' : ℕ) → IsMirror ts tc old a
+    → HoldsTheSame old.left new.left → HoldsTheSame old.right new.right
+    → (IsFalse new.sides.left → IsTrue new.sides.right)
+    → (IsTrue new.sides.left → IsTrue old.sides.left) → (IsTrue new.sides.right → IsTrue old.sides.right)
+    → HoldsTheSame (shown ts tc (preferred old) a f m p s) (shown ts tc (preferred new) a' f' m' p' s')
+mirror_held ts tc old new a a' f m p s f' m' p' s' k left right some_in left_was right_was = elim (cases_Bool new.sides.left) [
+  | inl holds ↦
+      subst (λ v. HoldsTheSame v (shown ts tc (preferred new) a' f' m' p' s')) (sym (shown_left ts tc old a f m p s (left_was holds)))
+      (subst (λ w. HoldsTheSame (shown ts tc old.left a f m p s) w) (sym (shown_left ts tc new a' f' m' p' s' holds))
+      (shown_held ts tc a a' f m p s f' m' p' s' old.left new.left left))
+  | inr fails ↦
+      let is : shown ts tc (preferred new) a' f' m' p' s' ≡ shown ts tc new.right a' f' m' p' s' =
+      ap (λ v. shown ts tc v a' f' m' p' s') (untold_is new.sides.left new.left new.right fails) in
+      subst (λ v. HoldsTheSame v (shown ts tc (preferred new) a' f' m' p' s'))
+      (sym (shown_right ts tc old a f m p s k.level (right_was (some_in fails))))
+      (subst (λ w. HoldsTheSame (shown ts tc old.right a f m p s) w) (sym is)
+      (shown_held ts tc a a' f m p s f' m' p' s' old.right new.right right))
+]
+
+-- an attach of a mirror
+pub mirror_attached : (ts tc : Bool) (old new : TwoSides) (a a' : Option Dims) (f m p s f' m' p' s' : ℕ) (dims : Dims)
+    (r : Result Found AttachError) → a' ≡ attached_after dims r → IsMirror ts tc old a → AttachedSides ts dims r old new
+    → (IsTrue new.sides.left → IsTrue old.sides.left) → (IsTrue new.sides.right → IsTrue old.sides.right)
+    → AttachDone ts dims (shown ts tc (preferred old) a f m p s) r (shown ts tc (preferred new) a' f' m' p' s')
+mirror_attached ts tc old new a a' f m p s f' m' p' s' dims r is k x left_was right_was =
+    let same = mirror_held ts tc old new a a' f m p s f' m' p' s' k x.left x.right x.some_in left_was right_was in
+    record {
+      answer = λ told.
+          subst (λ z. AttachAnswer z dims r) (sym (told_is ts (preferred new).stands None told) ∙ same.stands) (x.answer told);
+      attached = is;
+      stands = same.stands;
+      contents = same.contents;
+      dirty = same.dirty;
+    }

@@ -1,0 +1,37 @@
+use Rattle.bm_mirror.specs.TwoSides.{two_sides}
+use Rattle.bm_mirror.proofs.HealedLemmas.{mirror_healed, healed_shows, healed_clean}
+use Rattle.bm_mirror.proofs.mirror.Mirror.heal.Goals as goal
+
+pub invariant_of-self-clause-keeps : goal.invariant_of-self-clause-keeps
+invariant_of-self-clause-keeps g c =
+    let l = g.L.Rack in
+    let r = g.G.Rack in
+    let mirror = c.args.self.now in
+    let after = c.fill_sides-answer in
+    mirror_healed l.tells_stands l.tells_contents r.tells_stands r.tells_contents c.args.dims.now after.result
+    (two_sides (l.view mirror.left) (r.view mirror.right) mirror.sides)
+    (two_sides (l.view after.new.left) (r.view after.new.right) after.new.sides) mirror.attached mirror.keeps c.requires.attached
+    after.ensures (g.met.L.Rack.consistent after.new.left) (g.met.G.Rack.consistent after.new.right)
+
+pub returns-clause-shows : goal.returns-clause-shows
+returns-clause-shows g c =
+    let l = g.L.Rack in
+    let r = g.G.Rack in
+    let mirror = c.args.self.now in
+    let after = c.fill_sides-answer in
+    healed_shows l.tells_stands l.tells_contents r.tells_stands r.tells_contents c.args.dims.now after.result
+    (two_sides (l.view mirror.left) (r.view mirror.right) mirror.sides)
+    (two_sides (l.view after.new.left) (r.view after.new.right) after.new.sides) mirror.attached mirror.keeps c.requires.attached
+    after.ensures (g.met.L.Rack.consistent after.new.left) (g.met.G.Rack.consistent after.new.right) _ _ _ _ _
+
+pub returns-clause-clean : goal.returns-clause-clean
+returns-clause-clean g c apart ok =
+    let l = g.L.Rack in
+    let r = g.G.Rack in
+    let mirror = c.args.self.now in
+    let after = c.fill_sides-answer in
+    healed_clean l.tells_stands l.tells_contents r.tells_stands r.tells_contents c.args.dims.now after.result
+    (two_sides (l.view mirror.left) (r.view mirror.right) mirror.sides)
+    (two_sides (l.view after.new.left) (r.view after.new.right) after.new.sides) mirror.attached mirror.keeps c.requires.attached
+    after.ensures (g.met.L.Rack.consistent after.new.left) (g.met.G.Rack.consistent after.new.right)
+    mirror.faults mirror.moves mirror.pages mirror.syncs apart ok

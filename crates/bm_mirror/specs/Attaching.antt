@@ -1,0 +1,32 @@
+-- What an attach did to the sides of a mirror.
+use Rattle.std.specs.Prelude.{◌≡◌, Bool, IsTrue, IsFalse, Result, Ok, Some}
+use Rattle.bm_base.specs.declared.dims.Dims.{Dims}
+use Rattle.bm_rack.specs.declared.rack.Found.{Found}
+use Rattle.bm_rack.specs.declared.rack.Found.TheVariants.{Ready}
+use Rattle.bm_rack.specs.declared.rack.AttachError.{AttachError}
+use Rattle.bm_rack.specs.RackView.{RackView}
+use Rattle.bm_rack.specs.Calls.{AttachAnswer}
+use Rattle.bm_mirror.specs.TwoSides.{TwoSides, preferred}
+
+-- what stands, the contents and what is dirty are as before
+pub record HoldsTheSame (old new : RackView) : Type 0 where
+  pub stands : new.stands ≡ old.stands
+  pub contents : new.contents ≡ old.contents
+  pub dirty : new.dirty ≡ old.dirty
+
+-- The right side may go out by its answer to an attach: where the mirror answers Ready, and what stands is not told on both sides.
+abbrev pub OutByAnswer : Bool → Result Found AttachError → Type 0
+OutByAnswer told result = IsFalse told × (result ≡ Ok Ready)
+
+-- The sides after they were attached in order.
+pub record AttachedSides (told : Bool) (dims : Dims) (result : Result Found AttachError) (old new : TwoSides) : Type 0 where
+  -- nothing but what is attached changed on either
+  pub left : HoldsTheSame old.left new.left
+  pub right : HoldsTheSame old.right new.right
+  -- one is in at least
+  pub some_in : IsFalse new.sides.left → IsTrue new.sides.right
+  -- the answer is true of the side that is then asked first
+  pub answer : IsTrue told → AttachAnswer (preferred new).stands dims result
+  -- on Ready each that is in is attached
+  pub left_ready : result ≡ Ok Ready → IsTrue new.sides.left → new.left.attached ≡ Some dims
+  pub right_ready : result ≡ Ok Ready → IsTrue new.sides.right → new.right.attached ≡ Some dims

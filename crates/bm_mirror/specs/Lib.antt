@@ -1,0 +1,6 @@
+pub mod TwoSides
+pub mod SideCalls
+pub mod Attaching
+pub mod Creating
+pub mod Healing
+pub mod Consistent
