@@ -1,0 +1,11 @@
+pub mod OnBitLemmas
+pub mod OverLemmas
+pub mod MemberLemmas
+pub mod GroupLemmas
+pub mod HoldLemmas
+pub mod SetLemmas
+pub mod TotalLemmas
+pub mod AgreeLemmas
+pub mod TermLemmas
+pub mod KindLemmas
+pub mod SignLemmas
