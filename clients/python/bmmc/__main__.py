@@ -1,43 +1,59 @@
-"""`python -m bmmc`: the package by words of the shell."""
+"""`python3 -m bmmc`: the package by words of the shell."""
 
 from __future__ import annotations
 
+import os
 import sys
 from argparse import Namespace
 from typing import Callable, Optional, Sequence
 
 from .chosen import job_of, map_of
-from .detection import detect
+from .detection import detected_text
 from .errors import BmmcError, Killed, StatusError
 from .options import parser
 from .pictures import draw_pass, draw_plan
 from .plans import plan
 from .runs import clean, permute, resume, walsh
 from .sizes import size_text
-from .sources import mapped, source_of
+from .sources import source_of
+from .spelling import again, call_on, in_shell
 
 FAILED, SIGNALLED, INTERRUPTED = 2, 128, 130
 
 
 def main(words: Optional[Sequence[str]] = None) -> int:
-    """Does what the words say, and answers the exit status: 0, the program's own, or 2."""
+    """Does what the words say, and answers the exit status: 0, the program's own, 2, or that of a signal."""
     options = parser().parse_args(words)
-    try:
-        COMMANDS[options.command](options)
-    except StatusError as error:
-        return failed(error, error.status)
-    except Killed as error:
-        return failed(error, SIGNALLED + error.signal)
-    except (BmmcError, OSError) as error:
-        return failed(error, FAILED)
-    except KeyboardInterrupt:
-        return failed("stopped. A run goes on with the same words, or with `resume` and its work folder", INTERRUPTED)
+    with in_shell():
+        try:
+            COMMANDS[options.command](options)
+        except StatusError as error:
+            return failed(error, error.status)
+        except Killed as error:
+            return failed(error, SIGNALLED + error.signal)
+        except (BmmcError, OSError) as error:
+            return failed(error, FAILED)
+        except KeyboardInterrupt:
+            return failed(stopped(options), INTERRUPTED)
     return 0
+
+
+def stopped(options: Namespace) -> str:
+    """What there is to say of a command that was interrupted."""
+    if options.command == "clean":
+        return f"stopped: {again()}"
+    work = getattr(options, "work", None)
+    if work is None and "result" in options:
+        work = os.path.realpath(options.result) + ".work"
+    if work is None or not os.path.isdir(work):
+        return "stopped, and nothing is kept"
+    return f"stopped. What is done so far stays in {work}: {again()}, or go on by {call_on('resume', work)}"
 
 
 def failed(error: object, status: int) -> int:
     """Says what went wrong, and answers the status."""
-    print(f"bmmc: {error}", file=sys.stderr)
+    text = str(error)
+    print(text if text.startswith("bmmc ") else f"bmmc: {text}", file=sys.stderr)
     return status
 
 
@@ -77,9 +93,8 @@ def do_draw(options: Namespace) -> None:
 
 
 def do_detect(options: Namespace) -> None:
-    """Tells a map, as the lines of a job text."""
-    found = detect(mapped(options.source), options.program)
-    print(f"[map]\n{found.words}")
+    """Tells a map, as the job text that the program writes."""
+    print(detected_text(options.source, options.memory, options.program), end="")
 
 
 def do_resume(options: Namespace) -> None:

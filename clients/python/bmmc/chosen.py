@@ -25,6 +25,8 @@ def job_of(options: Namespace) -> Job:
     """The job of a command that moves nothing."""
     source = source_of(options.source)
     if options.walsh:
+        if options.inverse or options.complement or options.width or options.sides:
+            raise SourceError("the transform is of numbers of 8 bytes: it takes no `--inverse`, `--complement`, `--width` or `--sides`")
         return transform(source, options.memory, options.disks, options.block)
     return permutation(source, map_of(options, source), options.memory, options.disks, options.block)
 
@@ -41,14 +43,21 @@ def map_of(options: Namespace, source: Source) -> Map:
 def sides_of(options: Namespace, source: Source) -> Sides:
     """The sides of the array whose records are meant."""
     if source.sides is not None:
+        if options.width or options.sides:
+            raise SourceError("`--width` and `--sides` are for raw files: an `.npy` file has its own")
         return source.sides
-    return tuple(options.sides) if options.sides else (source.length // options.width,)
+    if options.sides:
+        return tuple(options.sides)
+    records, over = divmod(source.length, options.width or 1)
+    if over:
+        raise SourceError(f"the {source.length} bytes of {source.path} are no records of {options.width} bytes")
+    return (records,)
 
 
 def array_map(options: Namespace, sides: Sides) -> Optional[Map]:
     """A map of an array with axes; None where the options name another one."""
     if options.axes is not None:
-        return maps.axes(sides[: max(options.axes) + 1], options.axes)
+        return maps.axes(axes_of(sides, max(options.axes) + 1), options.axes)
     if options.tiles is not None:
         return maps.tiles(*axes_of(sides, 2), *options.tiles)
     if options.untiles:

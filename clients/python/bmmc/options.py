@@ -1,4 +1,4 @@
-"""The words and options of `python -m bmmc`."""
+"""The words and options of `python3 -m bmmc`."""
 
 from __future__ import annotations
 
@@ -6,29 +6,33 @@ from argparse import ArgumentParser, ArgumentTypeError, RawDescriptionHelpFormat
 
 from .chosen import PLAIN_KINDS
 from .sizes import bytes_of
+from .spelling import SHELL
 
-ABOUT = """Permutes the records of a file that is too large for memory.
+ABOUT = f"""Permutes the records of a file that is too large for memory.
 
-  python -m bmmc permute in.npy out.npy --axes 2,0,1               what numpy.transpose(array, (2, 0, 1)) does
-  python -m bmmc permute in.npy out.npy --axes 2,0,1 --memory 1G   with more in memory at a time
-  python -m bmmc plan in.npy --axes 2,0,1 --memory 1G --speed 200  what that will cost; nothing is moved
-  python -m bmmc resume out.npy.work                               goes on with a run that was stopped
+  {SHELL} permute in.npy out.npy --axes 2,0,1               what numpy.transpose(array, (2, 0, 1)) does
+  {SHELL} permute in.npy out.npy --axes 2,0,1 --memory 1G   with more in memory at a time
+  {SHELL} plan in.npy --axes 2,0,1 --memory 1G --speed 200  what that will cost; nothing is moved
+  {SHELL} resume out.npy.work                               goes on with a run that was stopped
 
 Each side of an array has to be a power of two. A result appears when it is whole; until then all work is in the folder OUT.work.
-`python -m bmmc COMMAND --help` tells the options of a command.
+`{SHELL} COMMAND --help` tells the options of a command.
+"""
+END = """The exit status is 0 where the command is done, that of the program bmmc where it refused (docs/FORMATS.md has them), 2 for words
+and files that can't be used, and 128 and the number of a signal that ended the program or this.
 """
 
 
 def parser() -> ArgumentParser:
     """All words and options."""
-    top = ArgumentParser("python -m bmmc", description=ABOUT, formatter_class=RawDescriptionHelpFormatter)
+    top = ArgumentParser(SHELL, description=ABOUT, epilog=END, formatter_class=RawDescriptionHelpFormatter)
     commands = top.add_subparsers(metavar="COMMAND", dest="command", required=True)
     for name, about, add in (
         ("permute", "write the records of IN to OUT in a new order", add_permute),
         ("walsh", "write the Walsh-Hadamard transform of IN, integers of 8 bytes, to OUT", add_walsh),
         ("plan", "tell the passes, transfers and seconds of a job; nothing is moved", add_plan),
         ("draw", "draw a job's matrix and cost, or one pass of a small example", add_draw),
-        ("detect", "tell the map that a list of addresses is", add_detect),
+        ("detect", "tell the map that a list of addresses is, as a job text, or why it is none", add_detect),
         ("resume", "go on with the run of a work folder", add_resume),
         ("clean", "give up the run of a work folder, and remove its disks", add_work),
     ):
@@ -41,6 +45,7 @@ def add_permute(command: ArgumentParser) -> None:
     add_files(command)
     add_map(command)
     add_sizes(command)
+    add_raw(command)
     add_run(command)
 
 
@@ -54,7 +59,7 @@ def add_walsh(command: ArgumentParser) -> None:
 def add_plan(command: ArgumentParser) -> None:
     """The options of `plan`."""
     add_job(command)
-    command.add_argument("--speed", type=float, metavar="MB", help="tell the seconds at that many MB (10^6 bytes) a second")
+    command.add_argument("--speed", type=speed, metavar="MB", help="tell the seconds at that many MB (10^6 bytes) a second")
 
 
 def add_draw(command: ArgumentParser) -> None:
@@ -69,12 +74,19 @@ def add_job(command: ArgumentParser) -> None:
     command.add_argument("source", metavar="IN", help="the file that would be permuted, .npy or raw")
     add_map(command).add_argument("--walsh", action="store_true", help="the Walsh-Hadamard transform in the place of a map")
     add_sizes(command)
+    add_raw(command)
     command.add_argument("--disks", type=int, default=1, metavar="D", help="the number of disks (1)")
 
 
 def add_detect(command: ArgumentParser) -> None:
     """The options of `detect`."""
-    command.add_argument("source", metavar="LIST.npy", help="2^n whole numbers below 2^n: the address to which each record goes")
+    command.add_argument(
+        "source",
+        metavar="LIST",
+        help="2^n whole numbers below 2^n, the address to which each record goes: an .npy file, or a raw file of numbers of 8 bytes, the "
+        "lowest first. For each number 8 bytes have to be free in the folder for temporary files, which TMPDIR names",
+    )
+    add_memory(command)
     add_program(command)
 
 
@@ -115,12 +127,22 @@ def add_map(command: ArgumentParser) -> _MutuallyExclusiveGroup:
 
 
 def add_sizes(command: ArgumentParser) -> None:
-    """Sizes of records, memory and blocks."""
-    command.add_argument("--memory", type=size, metavar="SIZE", help="records in memory at a time, as 1G; left out, 256M or the whole file")
+    """Sizes of memory and blocks."""
+    add_memory(command)
     command.add_argument("--block", type=size, default="64K", metavar="SIZE", help="what a block has at least, where there is room (64K)")
-    command.add_argument("--width", type=int, default=1, metavar="BYTES", help="of a raw file: the bytes of a record (1)")
-    command.add_argument("--sides", type=numbers, metavar="LIST", help="of a raw file: the sides of the array of its records: 1024,1024")
     add_program(command)
+
+
+def add_memory(command: ArgumentParser) -> None:
+    """The size of memory."""
+    command.add_argument("--memory", type=size, metavar="SIZE", help="records in memory at a time, as 1G; left out, 256M or the whole file")
+
+
+def add_raw(command: ArgumentParser) -> None:
+    """What a raw file does not tell by itself, of which one thing is enough."""
+    one = command.add_mutually_exclusive_group()
+    one.add_argument("--width", type=width, metavar="BYTES", help="of a raw file: the bytes of a record (1)")
+    one.add_argument("--sides", type=numbers, metavar="LIST", help="of a raw file: the sides of the array of its records: 1024,1024")
 
 
 def add_run(command: ArgumentParser) -> None:
@@ -156,6 +178,24 @@ def two_numbers(text: str) -> list[int]:
     if len(found := numbers(text)) != 2:
         raise ArgumentTypeError(f"{text!r} is not two numbers, as 64x64")
     return found
+
+
+def speed(text: str) -> float:
+    """A number above 0."""
+    try:
+        found = float(text)
+    except ValueError:
+        found = 0
+    if not 0 < found < float("inf"):
+        raise ArgumentTypeError(f"{text!r} is no speed: write it as 200 or 0.5")
+    return found
+
+
+def width(text: str) -> int:
+    """The bytes of a record."""
+    if not text.isdecimal() or int(text) < 1:
+        raise ArgumentTypeError(f"{text!r} is no number of bytes of a record: write it as 3")
+    return int(text)
 
 
 def size(text: str) -> int:

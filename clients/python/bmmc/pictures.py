@@ -48,6 +48,11 @@ def draw_plan(job: Job, program: Optional[FilePath] = None) -> Drawing:
     return drawing
 
 
+def bits_text(count: int) -> str:
+    """So many bits, in words."""
+    return f"{count} bit" + ("s" if count != 1 else "")
+
+
 def shape_words(shape: Shape) -> str:
     """A shape in a line."""
     return f"n={shape.n} b={shape.b} d={shape.d} m={shape.m} width={shape.width}"
@@ -100,7 +105,7 @@ def draw_ranks(drawing: Drawing, step: Step, round_of: str, left: float, top: fl
         ("none", f"passes {step.passes}, at most {step.at_most}"),
     ]
     if round_of:
-        lines.insert(0, ("none", f"{round_of}: butterflies on {step.butterflies} bits, then this rotation"))
+        lines.insert(0, ("none", f"{round_of}: butterflies on {bits_text(step.butterflies)}, then this rotation"))
     for number, (colour, text) in enumerate(lines):
         y = top + LINE * (number + 1)
         drawing.add(Box(left, y - 11, 14, 14, colour), Words(left + 22, y, text))
@@ -158,7 +163,7 @@ def drawn_pass(shape: Shape, one: Pass, number: int, count: int) -> Drawing:
     height = rows * LINE + 3 * LINE
     gap = 140
     drawing = Drawing(max(2 * MARGIN + 2 * area + gap, 560), 2 * MARGIN + 3 * LINE + height * shape.loads)
-    butterflies = f", butterflies on {one.low} bits first" if one.low else ""
+    butterflies = f", butterflies on {bits_text(one.low)} first" if one.low else ""
     drawing.add(Words(MARGIN, MARGIN + LINE, f"pass {number} of {count}{butterflies}. {shape_words(shape)}", 15))
     origins = sorted(range(1 << shape.n), key=one.map.image)
     for load in range(shape.loads):

@@ -10,6 +10,7 @@ from pathlib import Path
 from typing import IO, Callable, Optional, Sequence, Union
 
 from .errors import Killed, MissingProgram, StatusError
+from .spelling import option
 
 FilePath = Union[str, os.PathLike]
 Watch = Callable[[subprocess.Popen], None]
@@ -27,13 +28,15 @@ def find_program(program: Optional[FilePath] = None) -> "Program":
     if named:
         found = shutil.which(os.path.abspath(named))
         if not found:
-            raise MissingProgram(f"{named} is no program that can be started: give the path of `bmmc` as program= or in BMMC")
+            raise MissingProgram(
+                f"{named} is no program that can be started: give the path of `bmmc` by {option('program')} or in the variable BMMC"
+            )
         return Program(Path(found))
     built = shutil.which(CHECKOUT / "crates" / "bmmc" / "out" / "bmmc") or shutil.which("bmmc")
     if not built:
         raise MissingProgram(
             "the program `bmmc` was not found: build it by `./bmmc plan examples/gray.toml` in its repository, put it into PATH by "
-            "`./bmmc install PREFIX`, or name its file as program= or in the variable BMMC"
+            f"`./bmmc install PREFIX`, or name its file by {option('program')} or in the variable BMMC"
         )
     return Program(Path(built).resolve())
 

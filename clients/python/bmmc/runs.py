@@ -19,6 +19,7 @@ from .shapes import shape_of
 from .sizes import Size
 from .slate import gates_of
 from .sources import Source, source_of
+from .spelling import again, call_on
 from .targets import Target, permuted_target, split_sides, transformed_target
 from .work import BEGUN, DELIVERED, JOB, Order, Work, held
 
@@ -163,7 +164,7 @@ def told_where(work: Work) -> Iterator[None]:
     try:
         yield
     except (StatusError, Killed) as error:
-        error.further = f"What is done so far stays in {work.folder}: call again with the same words, or resume({str(work.folder)!r})."
+        error.further = f"What is done so far stays in {work.folder}: {again()}, or go on by {call_on('resume', work.folder)}."
         raise
 
 
@@ -211,7 +212,7 @@ class Steps:
         """Raises SourceError where the source was written after the run began. Then nothing is kept of what was read of it."""
         if self.order.source.stamp() != self.order.stamp:
             self.work.reach(BEGUN)
-            raise SourceError(f"{self.order.source.path} was written after the run began: give the words again, and it is read anew")
+            raise SourceError(f"{self.order.source.path} was written after the run began: {again()}, and it is read anew")
 
     def bytes_done(self) -> int:
         """The bytes that were moved in passes and need not be moved again."""

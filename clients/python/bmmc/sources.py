@@ -5,9 +5,9 @@ from __future__ import annotations
 import ast
 import os
 import threading
-from contextlib import contextmanager
+from contextlib import contextmanager, suppress
 from dataclasses import dataclass
-from typing import IO, Iterator, Optional, Union
+from typing import IO, Iterable, Iterator, Optional, Union
 
 import numpy
 
@@ -50,33 +50,37 @@ class Source:
             if self.offset + self.length == os.fstat(file.fileno()).st_size:
                 yield file
             else:
-                with piped(file, self.length) as reader:
+                with piped(stretch_of(file, self.length)) as reader:
                     yield reader
 
 
 @contextmanager
-def piped(file: IO[bytes], length: int) -> Iterator[IO[bytes]]:
-    """The reading end of a pipe, through which the next bytes of a file come."""
+def piped(pieces: Iterable[bytes]) -> Iterator[IO[bytes]]:
+    """The reading end of a pipe, through which these pieces come one after another."""
     reading, writing = os.pipe()
-    feeder = threading.Thread(target=feed, args=(file, length, writing))
+    feeder = threading.Thread(target=feed, args=(pieces, writing))
+    feeder.start()
     try:
         with open(reading, "rb", buffering=0) as reader:
-            feeder.start()
             yield reader
     finally:
         feeder.join()
 
 
-def feed(file: IO[bytes], length: int, writing: int) -> None:
-    """Hands that many bytes on, or as many as the file has and the reader takes."""
-    with open(writing, "wb", buffering=0) as pipe:
-        try:
-            while length and (piece := file.read(min(PIECE, length))):
-                length -= len(piece)
-                while piece:
-                    piece = piece[pipe.write(piece) :]
-        except BrokenPipeError:
-            pass
+def feed(pieces: Iterable[bytes], writing: int) -> None:
+    """Hands pieces on, or as many bytes of them as the reader takes."""
+    with open(writing, "wb", buffering=0) as pipe, suppress(BrokenPipeError):
+        for piece in pieces:
+            rest = memoryview(piece)
+            while rest:
+                rest = rest[pipe.write(rest) :]
+
+
+def stretch_of(file: IO[bytes], length: int) -> Iterator[bytes]:
+    """The next bytes of a file: that many, or as many as it has."""
+    while length and (piece := file.read(min(PIECE, length))):
+        length -= len(piece)
+        yield piece
 
 
 def source_of(given: Union[FilePath, numpy.memmap]) -> Source:
@@ -86,17 +90,21 @@ def source_of(given: Union[FilePath, numpy.memmap]) -> Source:
     path = os.path.abspath(given)
     if path.endswith(".npy"):
         return source_of_array(mapped(path))
+    return Source(path, 0, os.path.getsize(existing(path)))
+
+
+def existing(path: FilePath) -> FilePath:
+    """A path, where there is a file to read. It raises SourceError where there is none."""
     if not os.path.isfile(path):
-        raise SourceError(f"there is no file {path} to read")
-    return Source(path, 0, os.path.getsize(path))
+        raise SourceError(f"there is no file {os.fspath(path)} to read")
+    return path
 
 
 def mapped(path: FilePath) -> numpy.memmap:
     """The array of an `.npy` file, which is left on the disk."""
-    if not os.path.isfile(path):
-        raise SourceError(f"there is no file {path} to read")
+    existing(path)
     try:
-        return numpy.load(path, mmap_mode="r")
+        return numpy.lib.format.open_memmap(path, "r")
     except ValueError as error:
         raise SourceError(f"{path} is no `.npy` file of plain numbers or records: {error}") from error
 

@@ -29,7 +29,7 @@ STATUSES: dict[int, Status] = {
     2: Status(
         "usage",
         "the words are no command",
-        "see above; a number has no sign and no leading zero",
+        "give the words of one; a number has no sign and no leading zero",
     ),
     3: Status(
         "job fault",
@@ -57,7 +57,7 @@ STATUSES: dict[int, Status] = {
         "job map FAULT",
         "the map has this fault, and none before it: `width`, `side P`, `length GOT`, `range I`, `twice I J`, `wide I`, `singular "
         "X`, `complement C`",
-        "mend the map; of a singular matrix X is the least vector that it sends to 0",
+        "mend the map; of a singular matrix X is the least vector that it sends to 0. `detect` wants records of 8 bytes",
     ),
     8: Status(
         "input fault",

@@ -15,6 +15,7 @@ from .errors import SourceError
 from .maps import Map, Sides
 from .program import FilePath
 from .sources import Source, dtype_of, spelled
+from .spelling import again
 
 
 @dataclass(frozen=True)
@@ -42,7 +43,7 @@ class Target:
                 file.seek(offset)
                 yield file
                 if file.tell() != offset + self.length:
-                    raise SourceError(f"{file.tell() - offset} bytes of {self.length} came out: call again")
+                    raise SourceError(f"{file.tell() - offset} bytes of {self.length} came out: {again()}")
                 os.fsync(file.fileno())
             os.replace(unfinished, self.path)
         except BaseException:

@@ -17,6 +17,7 @@ from .program import LEAST_POLL, FilePath, Program
 from .shapes import Shape
 from .sizes import size_text
 from .sources import Source
+from .spelling import again, call_on, option
 from .targets import Target, sync_folder
 
 STATE, JOB, SLATE = "bmmc-run.json", "bmmc-run.toml", "bmmc-slate"
@@ -127,7 +128,8 @@ class Work:
         elif differences := self.state.order.differences(order):
             raise WorkError(
                 f"{self.folder} holds another run, which differs in its {', '.join(differences)}: finish it by "
-                f"resume({str(self.folder)!r}), give it up by clean({str(self.folder)!r}), or give another work folder"
+                f"{call_on('resume', self.folder)}, give it up by {call_on('clean', self.folder)}, or name another folder by "
+                f"{option('work')}"
             )
 
     def has_nothing_for(self, order: Order) -> bool:
@@ -170,7 +172,8 @@ class Work:
         wanted.append((Path(order.target.path).parent, order.target.length))
         for device in {os.stat(place).st_dev for place, _ in wanted}:
             here = [(place, size) for place, size in wanted if os.stat(place).st_dev == device]
-            want_free(here[0][0], sum(size for _, size in here))
+            advice = f"make room, or name folders on other devices by {option('disks', 'disk')}"
+            want_free(here[0][0], sum(size for _, size in here), "the disks and the result need", advice)
 
     def remove_disks(self) -> None:
         """Removes the disks and the control file."""
@@ -200,15 +203,12 @@ class Work:
                 self.folder.rmdir()
 
 
-def want_free(place: Path, size: int) -> None:
-    """Raises RoomError where the device of a folder has less free bytes."""
+def want_free(place: Path, size: int, need: str, advice: str) -> None:
+    """Raises RoomError where the device of a folder has less free bytes than what is told in words as a need, and advises."""
     state = os.statvfs(place)
     free = state.f_bavail * state.f_frsize
     if free < size:
-        raise RoomError(
-            f"the disks and the result need {size_text(size)} on the device of {place}, and {size_text(free)} are free: make room, or give "
-            "folders on other devices as disks"
-        )
+        raise RoomError(f"{need} {size_text(size)} on the device of {place}, and {size_text(free)} are free: {advice}")
 
 
 def with_sides(kept: dict) -> dict:
@@ -245,5 +245,5 @@ def lock_or_refuse(folder: FilePath, lock: int) -> None:
             return fcntl.flock(lock, fcntl.LOCK_EX | fcntl.LOCK_NB)
         except BlockingIOError as error:
             if time.monotonic() > until:
-                raise WorkError(f"a run is at work in {folder}: wait for it, or end it, and then call again") from error
+                raise WorkError(f"a run is at work in {folder}: wait for it, or end it, and then {again()}") from error
         time.sleep(LEAST_POLL)

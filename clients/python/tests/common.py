@@ -72,6 +72,16 @@ class FolderTest(unittest.TestCase):
         return Asserted()
 
 
+def random_map(n: int, seed: int) -> bmmc.Map:
+    """A map of n address bits, each matrix and each complement as likely as another."""
+    random = numpy.random.default_rng(seed)
+    while True:
+        try:
+            return bmmc.rows(random.integers(0, 1 << n, n).tolist(), int(random.integers(0, 1 << n)))
+        except bmmc.MapError:
+            continue
+
+
 def numbered(*sides: int, dtype: str = "<u4") -> numpy.ndarray:
     """An array of these sides whose elements are their places in C order."""
     return numpy.arange(int(numpy.prod(sides)), dtype=dtype).reshape(sides)

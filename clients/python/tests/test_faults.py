@@ -54,7 +54,7 @@ class WrongInput(FolderTest):
             if progress.command == "load":
                 self.saved(array + 1)
 
-        with self.assert_raises(bmmc.SourceError, "was written after the run began: give the words again"):
+        with self.assert_raises(bmmc.SourceError, "was written after the run began: call again with the same arguments"):
             bmmc.permute(source, out, bmmc.reversal(8), memory=128, progress=write)
         self.assertFalse(out.exists())
         bmmc.permute(source, out, bmmc.reversal(8), memory=128)
@@ -144,7 +144,7 @@ class WrongFolders(FolderTest):
             bmmc.permute(source, out, bmmc.reversal(8), memory=128, work=work, progress=stop)
         (work / "bmmc-disk-00").unlink()
         for call in (lambda: bmmc.resume(work), lambda: bmmc.permute(source, out, bmmc.reversal(8), memory=128, work=work)):
-            with self.assert_raises(bmmc.StatusError, "wrong dims (status 13)", "What is done so far stays in"):
+            with self.assert_raises(bmmc.StatusError, "wrong dims (status 13)", "stays in", f"`bmmc.resume({str(work)!r})`"):
                 call()
         self.assertTrue((work / STATE).exists())
         bmmc.clean(work)
@@ -196,7 +196,7 @@ class FullDevice(FolderTest):
         array, small = numbered(1 << 18, dtype="<u8"), SimpleNamespace(f_bavail=3, f_frsize=1 << 20)
         disks = self.folders(1)
         with unittest.mock.patch("bmmc.work.os.statvfs", lambda place: small):
-            with self.assert_raises(bmmc.RoomError, "need 6M", "3M are free", "make room, or give folders"):
+            with self.assert_raises(bmmc.RoomError, "need 6M", "3M are free", "make room, or name folders on other devices by `disks=`"):
                 bmmc.permute(self.saved(array), self.folder / "out.npy", bmmc.reversal(18), memory="64K", disks=disks)
         self.assertEqual(os.listdir(disks[0]), [])
         bmmc.permute(self.folder / "in.npy", self.folder / "out.npy", bmmc.reversal(18), memory="64K", disks=disks)

@@ -67,7 +67,7 @@ class Plans(FolderTest):
 
     def test_a_transform_shows_its_rounds(self) -> None:
         words = words_of(bmmc.draw_plan(bmmc.Job(bmmc.Shape(2, 0, 0, 1, 8), bmmc.WALSH)))
-        for text in ("round 1 of 2: butterflies on 1 bits, then this rotation", "passes 4", "transfers 32", "bound 32"):
+        for text in ("round 1 of 2: butterflies on 1 bit, then this rotation", "passes 4", "transfers 32", "bound 32"):
             self.assertIn(text, words)
 
     def test_the_rotations_that_are_drawn_have_the_ranks_of_the_plan(self) -> None:

@@ -8,7 +8,7 @@ import numpy
 
 import bmmc
 
-from .common import PROGRAM, FolderTest, needs_program, numbered
+from .common import FolderTest, needs_program, numbered
 
 
 @needs_program
@@ -114,6 +114,14 @@ class Transformed(FolderTest):
         self.assertEqual((result.shape, result.dtype), ((16, 16), values.dtype))
         self.assertEqual(result.ravel().tolist(), (signs @ values).tolist())
 
+    def test_twice_over_it_gives_each_number_n_times(self) -> None:
+        values = numpy.random.default_rng(3).integers(0, 1 << 64, 1 << 20, dtype=numpy.uint64)
+        once, twice = self.folder / "once.npy", self.folder / "twice.npy"
+        bmmc.walsh(self.saved(values), once, memory="1M", disks=self.folders(2), checkpoint=2)
+        bmmc.walsh(once, twice, memory="512K")
+        self.assertEqual(int(numpy.load(once)[0]), sum(values.tolist()) % 2**64)
+        self.assertTrue(numpy.array_equal(numpy.load(twice), values << numpy.uint64(20)))
+
     def test_fortran_order_stays(self) -> None:
         values = numpy.random.default_rng(2).integers(0, 1000, (8, 4))
         plain = numpy.load(bmmc.walsh(self.saved(values), self.folder / "out.npy", memory=64, block=16))
@@ -138,49 +146,3 @@ class Planned(FolderTest):
         costs = bmmc.plan(bmmc.Job(bmmc.Shape(2, 0, 0, 1, 8), bmmc.WALSH))
         self.assertEqual(costs.steps, (bmmc.Step(1, 0, 1, 2, 2),) * 2)
         self.assertEqual((costs.passes, costs.transfers, costs.bound), (4, 32, 32))
-
-
-@needs_program
-class Detected(FolderTest):
-    def detected(self, addresses) -> bmmc.Map:
-        """The map of a list; the test is skipped where the program has no `detect`."""
-        try:
-            return bmmc.detect(addresses)
-        except bmmc.MissingCommand as error:
-            self.skipTest(str(error))
-
-    def test_a_list_of_addresses_is_its_map(self) -> None:
-        for map in (bmmc.gray(6, 5), bmmc.rows([2, 1]), bmmc.axes((4, 8), (1, 0))):
-            self.assertEqual(self.detected(map.image(numpy.arange(1 << map.n))), map)
-
-    def test_a_list_that_is_no_map_is_refused_with_its_place(self) -> None:
-        for addresses, status, words in (
-            ([0, 1, 2, 2], 23, "not affine 3 2 3"),
-            ([1, 1, 1, 1], 24, "not a permutation 1"),
-            ([0, 1, 2, 4], 22, "out of range 3 4"),
-        ):
-            self.detected([0, 2, 1, 3])
-            with self.assert_raises(bmmc.StatusError, words) as caught:
-                bmmc.detect(addresses)
-            self.assertEqual(caught.error.status, status)
-
-    def test_the_text_of_the_command_is_read(self) -> None:
-        text = "[shape]\\nn = 2\\nb = 0\\nd = 0\\nm = 1\\nwidth = 8\\n\\n[map]\\nkind = \"rows\"\\nrows = [3, 2]\\ncomplement = 1\\n"
-        fake = self.folder / "bmmc"
-        fake.write_text(
-            f"#!/bin/sh\n[ $1 = detect ] || exec {PROGRAM.path} \"$@\"\n[ -e bmmc-slate ] || exit 12\nprintf '{text}'\n", encoding="utf-8"
-        )
-        fake.chmod(0o755)
-        self.assertEqual(bmmc.detect([1, 0, 2, 3], program=fake), bmmc.rows([3, 2], 1))
-
-    def test_a_build_without_the_command_is_told(self) -> None:
-        fake = self.folder / "bmmc"
-        fake.write_text("#!/bin/sh\necho 'bmmc: usage' >&2\nexit 2\n", encoding="utf-8")
-        fake.chmod(0o755)
-        with self.assert_raises(bmmc.MissingCommand, "this build of bmmc has no `detect`"):
-            bmmc.detect([0, 2, 1, 3], program=fake)
-
-    def test_what_is_no_list_of_addresses_is_refused(self) -> None:
-        for given in ([0.5, 1.5], [[0, 1], [2, 3]], [-1, 0]):
-            with self.assert_raises(bmmc.SourceError, "a list of addresses"):
-                bmmc.detect(given)

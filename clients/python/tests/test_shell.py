@@ -15,7 +15,7 @@ from pathlib import Path
 TOP = Path(__file__).resolve().parents[3]
 MANUAL = TOP / "docs" / "bmmc.1"
 COMPLETION = TOP / "clients" / "bash" / "bmmc"
-WORDS = ["carry", "plan", "new", "load", "run", "status", "dump", "drop", "flip"]
+WORDS = ["carry", "plan", "new", "load", "run", "status", "dump", "drop", "detect", "drill", "flip"]
 KINDS = ["identity", "reversal", "bit-reversal", "transpose", "gray", "inverse-gray", "rotation", "bits", "rows", "walsh"]
 
 
@@ -34,9 +34,15 @@ class Manual(unittest.TestCase):
         self.assertEqual((ended.returncode, ended.stderr), (0, ""))
         self.assertIn("permute records that are too many for memory", " ".join(ended.stdout.split()))
 
+    def test_the_words_are_those_of_the_script(self) -> None:
+        help = (TOP / "bmmc").read_text(encoding="utf-8").partition('HELP = """')[2].partition('"""')[0]
+        self.assertEqual(sorted(re.findall(r"^  bmmc (\w+)", help, re.MULTILINE)), sorted(WORDS + ["install", "uninstall"]))
+
     def test_it_has_each_word_and_an_example_of_each_kind(self) -> None:
+        synopsis = self.text.partition(".SH SYNOPSIS")[2].partition(".SH")[0]
         for word in WORDS:
             self.assertIn(f".BI {word} ", self.text)
+            self.assertRegex(synopsis, rf"\b{word}\b")
         for kind in KINDS:
             self.assertIn(f'.B {kind}\n', self.text)
             self.assertIn(f'kind = "{kind}"', self.text)
@@ -50,7 +56,8 @@ class Manual(unittest.TestCase):
 
     def test_the_examples_that_it_names_are_there(self) -> None:
         names = set(re.findall(r"(?<![\w-])([\w-]+\.toml)", self.text)) - {"job.toml"}
-        self.assertEqual(names, {"transpose.toml", "checkpoint.toml", "drill.toml"})
+        names -= {"found.toml"}
+        self.assertEqual(names, {"transpose.toml", "checkpoint.toml", "list.toml", "drill.toml"})
         for name in names | {f"{kind}.toml" for kind in KINDS}:
             self.assertTrue((TOP / "examples" / name).is_file(), name)
 
@@ -74,13 +81,14 @@ class Completion(unittest.TestCase):
 
     def test_first_come_the_words(self) -> None:
         self.assertEqual(self.completed("bmmc", ""), WORDS)
-        self.assertEqual(self.completed("bmmc", "d"), ["dump", "drop"])
+        self.assertEqual(self.completed("bmmc", "d"), ["dump", "drop", "detect", "drill"])
 
     def test_the_script_of_the_repository_has_more_words(self) -> None:
         self.assertEqual(self.completed("script/bmmc", ""), WORDS + ["help", "install", "uninstall"])
 
     def test_then_come_job_texts_and_folders(self) -> None:
-        self.assertEqual(sorted(self.completed("bmmc", "run", "")), ["folder", "gray.toml", "script", "with space.toml"])
+        for word in WORDS[:-1]:
+            self.assertEqual(sorted(self.completed("bmmc", word, "")), ["folder", "gray.toml", "script", "with space.toml"])
         self.assertEqual(self.completed("bmmc", "run", "folder/"), ["folder/inner.toml"])
         self.assertEqual(self.completed("bmmc", "flip", ""), [])
         self.assertEqual(sorted(self.completed("script/bmmc", "install", "")), ["folder", "script"])

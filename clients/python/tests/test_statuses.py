@@ -32,4 +32,19 @@ class Errors(FolderTest):
         (self.folder / "job.toml").write_text(text, encoding="utf-8")
         with self.assert_raises(bmmc.StatusError, "job shape rule 3", "status 6") as caught:
             PROGRAM.call(["plan", "job.toml"], self.folder)
-        self.assertEqual(caught.error.status, 6)
+        self.assertEqual((caught.error.status, caught.error.numbers), (6, (3,)))
+
+
+class Filled(unittest.TestCase):
+    def test_a_cause_has_the_numbers_of_the_case(self) -> None:
+        for words, status, numbers, cause in (
+            ("input short 12", 9, (12,), "the input ended after 12 bytes"),
+            ("not done 1 of 2", 18, (1, 2), "so many of its passes are done"),
+            ("not affine 7 1 18", 23, (7, 1, 18), "number 7 of the list is 1, where the map of its unit addresses has 18"),
+            ("job map singular 9", 7, (9,), STATUSES[7].cause),
+            ("input long", 10, (), STATUSES[10].cause),
+            ("", 26, (), STATUSES[26].cause),
+        ):
+            error = bmmc.StatusError("load", status, words)
+            self.assertEqual((error.numbers, error.cause), (numbers, cause))
+            self.assertIn(cause, str(error))

@@ -1,4 +1,4 @@
-"""`python -m bmmc`, as a newcomer uses it."""
+"""`python3 -m bmmc`, as a newcomer uses it."""
 
 from __future__ import annotations
 
@@ -12,7 +12,7 @@ from .common import PACKAGE, PROGRAM, FolderTest, needs_package, needs_program, 
 
 
 class WordsTest(FolderTest):
-    """A test that calls `python -m bmmc` in its folder."""
+    """A test that calls `python3 -m bmmc` in its folder."""
 
     def call(self, *words: str) -> subprocess.CompletedProcess:
         environment = {**os.environ, "PYTHONPATH": str(PACKAGE), "COLUMNS": "200"}
@@ -34,10 +34,10 @@ class WordsTest(FolderTest):
 class Help(WordsTest):
     def test_help_tells_each_command_and_an_example(self) -> None:
         text = self.done("--help")
-        for word in ("permute", "walsh", "plan", "draw", "detect", "resume", "clean", "python -m bmmc permute in.npy out.npy --axes 2,0,1"):
-            self.assertIn(word, text)
+        self.assertIn("python3 -m bmmc permute in.npy out.npy --axes 2,0,1", text)
         for command in ("permute", "walsh", "plan", "draw", "detect", "resume", "clean"):
-            self.assertIn("usage: python -m bmmc " + command, self.done(command, "--help"))
+            self.assertIn(f"    {command} ", text)
+            self.assertIn("usage: python3 -m bmmc " + command, self.done(command, "--help"))
 
     def test_wrong_words_are_told(self) -> None:
         for words, text in {
@@ -45,6 +45,10 @@ class Help(WordsTest):
             ("permute", "in.npy", "out.npy", "--axes", "a,b"): "'a,b' is no list of whole numbers",
             ("permute", "in.npy", "out.npy", "--tiles", "4"): "'4' is not two numbers, as 64x64",
             ("permute", "in.npy", "out.npy", "--morton", "--memory", "much"): "'much' is no number of bytes",
+            ("permute", "in", "out", "--morton", "--width", "0"): "'0' is no number of bytes of a record",
+            ("permute", "in", "out", "--axes", "1,0", "--width", "3", "--sides", "4,4"): "not allowed with argument",
+            ("plan", "in.npy", "--morton", "--speed", "0"): "'0' is no speed",
+            ("walsh", "in", "out", "--width", "8"): "unrecognized arguments: --width 8",
             (): "COMMAND",
         }.items():
             ended = self.call(*words)
@@ -89,6 +93,17 @@ class Runs(WordsTest):
         self.assertEqual((self.folder / "out").read_bytes(), array.transpose(1, 0, 2).tobytes())
         self.done("permute", "in", "out", "--kind", "reversal", "--width", "3")
         self.assertEqual((self.folder / "out").read_bytes(), array.reshape(-1, 3)[::-1].tobytes())
+        self.saved(array)
+        for words, text in {
+            ("permute", "in", "out", "--kind", "gray", "--width", "5"): "384 bytes of",
+            ("permute", "in.npy", "out", "--kind", "gray", "--width", "3"): "`--width` and `--sides` are for raw files",
+            ("permute", "in.npy", "out", "--axes", "1,0", "--sides", "8,16"): "`--width` and `--sides` are for raw files",
+            ("plan", "in", "--walsh", "--complement", "3"): "it takes no `--inverse`, `--complement`",
+            ("plan", "in", "--axes", "1,0"): "an array of 2 axes is wanted, and this one has 1: for a raw file, name them by --sides",
+        }.items():
+            ended = self.call(*words)
+            self.assertEqual(ended.returncode, 2)
+            self.assertIn(text, ended.stderr)
 
     def test_walsh_and_disks_and_progress(self) -> None:
         self.saved(numpy.array([1, 2, 3, 4]))
@@ -118,13 +133,56 @@ class Runs(WordsTest):
         self.assertIn("transfers 16", (self.folder / "plan.svg").read_text(encoding="utf-8"))
         self.assertIn("pass 2 of 2", (self.folder / "pass.svg").read_text(encoding="utf-8"))
 
-    def test_detect_tells_the_map_or_that_there_is_no_such_command(self) -> None:
-        numpy.save(self.folder / "list.npy", numpy.array([0, 2, 1, 3]))
-        ended = self.call("detect", "list.npy")
-        if "this build of bmmc has no `detect`" in ended.stderr:
-            self.assertEqual(ended.returncode, 2)
-            self.skipTest(ended.stderr.strip())
-        self.assertEqual((ended.returncode, ended.stdout), (0, '[map]\nkind = "rows"\nrows = [2, 1]\n'))
+    def test_detect_prints_a_job_text_that_the_program_takes(self) -> None:
+        addresses = numpy.array([1, 3, 0, 2])
+        self.saved(addresses, "list.npy")
+        addresses.astype("<u8").tofile(self.folder / "list")
+        text = "[shape]\nn = 2\nb = 1\nd = 0\nm = 2\nwidth = 8\n\n[map]\nkind = \"rows\"\nrows = [2, 1]\ncomplement = 1\n"
+        self.assertEqual(self.done("detect", "list.npy"), text)
+        self.assertEqual(self.done("detect", "list"), text)
+        self.assertIn("m = 1\n", self.done("detect", "list", "--memory", "16"))
+        (self.folder / "found.toml").write_text(text, encoding="utf-8")
+        self.saved(numbered(4, dtype="<u8"))
+        with open(self.folder / "list", "rb") as file:
+            self.assertEqual(PROGRAM.call(["new", "found.toml"], self.folder), "")
+            PROGRAM.call(["load", "found.toml"], self.folder, stdin=file)
+        PROGRAM.call(["run", "found.toml"], self.folder)
+        with open(self.folder / "moved", "wb") as file:
+            PROGRAM.call(["dump", "found.toml"], self.folder, stdout=file)
+        self.assertEqual(numpy.fromfile(self.folder / "moved", "<u8").tolist(), [0, 1, 2, 3], "each address moved to itself")
+
+    def test_detect_ends_with_the_status_of_a_list_that_has_no_map(self) -> None:
+        for addresses, status, words in (
+            ([0, 1, 2, 9], 22, "bmmc detect: out of range 3 9 (status 22). Cause: number 3 of the list is 9, which is no address."),
+            ([0, 1, 3, 3], 23, "bmmc detect: not affine 3 3 2 (status 23)."),
+            ([2, 2, 3, 3], 24, "bmmc detect: not a permutation 1 (status 24)."),
+            ([0, 1, 2], 2, "bmmc: a list of addresses has 2^n numbers"),
+        ):
+            self.saved(numpy.array(addresses), "list.npy")
+            ended = self.call("detect", "list.npy")
+            self.assertEqual((ended.returncode, ended.stdout), (status, ""))
+            self.assertTrue(ended.stderr.startswith(words), ended.stderr)
+            self.assertEqual(ended.stderr.count("\n"), 1)
+
+    def test_errors_name_what_the_shell_has(self) -> None:
+        self.saved(numbered(256))
+        wrapper = self.folder / "wrapper"
+        wrapper.write_text(f'#!/bin/sh\n[ "$1" != run ] || exit 11\nexec {PROGRAM.path} "$@"\n', encoding="utf-8")
+        wrapper.chmod(0o755)
+        words = ("permute", "in.npy", "out.npy", "--kind", "gray", "--work", "a place")
+        place = str(self.folder / "a place")
+        for further, text in (
+            (("--memory", "128", "--program", str(wrapper)), f"give the same words again, or go on by `python3 -m bmmc resume '{place}'`."),
+            (("--memory", "256"), f"give it up by `python3 -m bmmc clean '{place}'`, or name another folder by `--work`"),
+            (("--program", "/nowhere"), "give the path of `bmmc` by `--program` or in the variable BMMC"),
+        ):
+            ended = self.call(*words, *further)
+            self.assertNotEqual(ended.returncode, 0)
+            self.assertIn(text, ended.stderr)
+            self.assertNotIn("resume(", ended.stderr)
+            self.assertNotIn("program=", ended.stderr)
+        self.done("resume", "a place")
+        self.assertFalse((self.folder / "a place").exists())
 
     def test_errors_have_a_line_and_a_status(self) -> None:
         self.saved(numbered(8, 12))
@@ -149,6 +207,22 @@ class Runs(WordsTest):
         self.assertIn("job fault (status 3)", ended.stderr)
         self.assertEqual(self.done("resume", "out.npy.work").strip(), str(self.folder / "out.npy"))
         self.assertEqual(self.result().tolist(), list(range(256))[::-1])
+
+    def test_an_interrupt_says_what_is_kept(self) -> None:
+        self.saved(numbered(256))
+        wrapper = self.folder / "wrapper"
+        for command, words, text in (
+            ("run", ("permute", "in.npy", "out.npy", "--kind", "gray"), f"go on by `python3 -m bmmc resume {self.folder}/out.npy.work`"),
+            ("load", ("detect", "in.npy"), "bmmc: stopped, and nothing is kept"),
+        ):
+            interrupts = f"[ $1 != {command} ] || {{ sleep 1; kill -INT $PPID; exec sleep 60; }}"
+            wrapper.write_text(f'#!/bin/sh\n{interrupts}\nexec {PROGRAM.path} "$@"\n', encoding="utf-8")
+            wrapper.chmod(0o755)
+            ended = self.call(*words, "--program", str(wrapper))
+            self.assertEqual(ended.returncode, 130)
+            self.assertIn(text, ended.stderr)
+        self.done("resume", "out.npy.work")
+        self.assertEqual(sorted(os.listdir(self.folder)), ["in.npy", "out.npy", "wrapper"])
 
     def test_clean_gives_a_run_up(self) -> None:
         self.saved(numbered(256))
