@@ -11,7 +11,7 @@ use crate::sides::Sides;
 use bm_base::{Failed, PAGE_BYTES};
 use bm_rack::Rack;
 
-// Writes a row to a side, where it is in.
+/// Writes a row to a side, where it is in.
 pub fn write_row_of<R: Rack>(
     rack: &mut R,
     is_in: bool,
@@ -31,7 +31,7 @@ pub fn write_row_of<R: Rack>(
     }
 }
 
-// Writes a page to a side, where it is in.
+/// Writes a page to a side, where it is in.
 pub fn write_page_of<R: Rack>(
     rack: &mut R,
     is_in: bool,
@@ -51,7 +51,7 @@ pub fn write_page_of<R: Rack>(
     }
 }
 
-// Syncs a side, where it is in.
+/// Syncs a side, where it is in.
 pub fn sync_of<R: Rack>(rack: &mut R, is_in: bool) -> Result<(), Failed>
     requires { IsTrue is_in → IsAttached (R.view rack.old).attached }
     ensures synced { IsTrue is_in → Synced (R.view rack.old) result (R.view rack.new) }
@@ -60,7 +60,7 @@ pub fn sync_of<R: Rack>(rack: &mut R, is_in: bool) -> Result<(), Failed>
     if is_in { rack.sync() } else { Ok(()) }
 }
 
-// Reads a row of a side that is asked. One that is not asked fails, and leaves the bytes.
+/// Reads a row of a side that is asked. One that is not asked fails, and leaves the bytes.
 pub fn read_row_of<R: Rack>(
     rack: &mut R,
     asked: bool,
@@ -81,7 +81,7 @@ pub fn read_row_of<R: Rack>(
     }
 }
 
-// Reads a page of a side that is asked. One that is not asked fails, and leaves the bytes.
+/// Reads a page of a side that is asked. One that is not asked fails, and leaves the bytes.
 pub fn read_page_of<R: Rack>(
     rack: &mut R,
     asked: bool,
@@ -103,14 +103,14 @@ pub fn read_page_of<R: Rack>(
     }
 }
 
-// The right side is asked for a read where it is in and the left one gave nothing.
+/// The right side is asked for a read where it is in and the left one gave nothing.
 pub fn asks_right(sides: Sides, left: Result<(), Failed>) -> bool
     ensures { result ≡ (sides.right && is_err left) }
 {
     sides.right && left.is_err()
 }
 
-// The answer of a read: that of the right side where the left one gave nothing.
+/// The answer of a read: that of the right side where the left one gave nothing.
 pub fn either(left: Result<(), Failed>, right: Result<(), Failed>) -> Result<(), Failed>
     ensures left { IsOk left → result ≡ left }
     ensures right { IsErr left → result ≡ right }
@@ -118,7 +118,7 @@ pub fn either(left: Result<(), Failed>, right: Result<(), Failed>) -> Result<(),
     if left.is_ok() { left } else { right }
 }
 
-// Counts a fault where the call failed.
+/// Counts a fault where the call failed.
 pub fn count_fault(faults: &mut u64, failed: bool)
     ensures failed { IsTrue failed → faults.new ≡ raised faults.old 1 }
     ensures quiet { IsFalse failed → faults.new ≡ faults.old }
@@ -129,8 +129,8 @@ pub fn count_fault(faults: &mut u64, failed: bool)
     }
 }
 
-// The answer of both sides, each of which was asked where it is in. A side that failed goes out
-// where the other is in and did not fail; where both failed, left goes out.
+/// The answer of both sides, each of which was asked where it is in. A side that failed goes out
+/// where the other is in and did not fail; where both failed, left goes out.
 pub fn settle(
     sides: &mut Sides,
     left: Result<(), Failed>,

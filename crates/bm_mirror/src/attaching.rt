@@ -35,8 +35,8 @@ fn attach_second<R: Rack>(rack: &mut R, is_in: &mut bool, dims: &Dims) -> Result
     Ok(Found::Ready)
 }
 
-// Attaches each side that is in, left first. One that fails goes out where the other is in, and
-// right goes out where it does not follow a left one that is ready.
+/// Attaches each side that is in, left first. One that fails goes out where the other is in, and
+/// right goes out where it does not follow a left one that is ready.
 pub fn attach_sides<L: Rack, G: Rack>(
     left: &mut L,
     right: &mut G,
@@ -72,7 +72,7 @@ pub fn attach_sides<L: Rack, G: Rack>(
     }
 }
 
-// What is attached after the answer.
+/// What is attached after the answer.
 pub fn attached_by(answer: Result<Found, AttachError>, dims: &Dims) -> Option<Dims>
     ensures { result ≡ attached_after dims.now answer }
 {

@@ -176,7 +176,7 @@ fn copy_pages<F: Rack, T: Rack>(from: &mut F, to: &mut T, dims: &Dims) -> Result
     Ok(())
 }
 
-// Copies all, and makes it durable.
+/// Copies all, and makes it durable.
 pub fn copy_all<F: Rack, T: Rack>(
     from: &mut F,
     to: &mut T,

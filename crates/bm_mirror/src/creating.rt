@@ -58,7 +58,7 @@ fn create_sides<P: Rack, O: Rack>(
     }
 }
 
-// Makes both: the one that is out, and then the one that is asked first.
+/// Makes both: the one that is out, and then the one that is asked first.
 pub fn create_both<L: Rack, G: Rack>(
     left: &mut L,
     right: &mut G,

@@ -99,7 +99,7 @@ fn fill<F: Rack, T: Rack>(
     }
 }
 
-// Fills the side that is out, where one is, and takes it in where it is level.
+/// Fills the side that is out, where one is, and takes it in where it is level.
 pub fn fill_sides<L: Rack, G: Rack>(
     left: &mut L,
     right: &mut G,
