@@ -78,6 +78,7 @@ memory_view store attached faults moves pages syncs steady stopping = record {
   syncs = syncs;
   steady = steady;
   stopping = stopping;
+  lasting = λ fact. false;
 }
 
 -- the view of a new one: nothing stands, nothing is attached or dirty, and every count is 0
@@ -93,4 +94,5 @@ new_view steady = record {
   syncs = 0;
   steady = steady;
   stopping = false;
+  lasting = λ fact. false;
 }

@@ -33,7 +33,7 @@ RaisesCounts-trans m p s m' p' s' a b c x y = record {
 }
 
 pub Keeps-refl : (v : RackView) → Keeps v v
-Keeps-refl v = record { faults = omega arith; steady = λ h. h; stopping = refl; sure = λ _ _. refl }
+Keeps-refl v = record { faults = omega arith; steady = λ h. h; stopping = refl; sure = λ _ _. refl; lasting = λ _ h. h }
 
 pub Keeps-trans : (a b c : RackView) → Keeps a b → Keeps b c → Keeps a c
 Keeps-trans a b c x y = record {
@@ -41,6 +41,7 @@ Keeps-trans a b c x y = record {
   steady = λ h. y.steady (x.steady h);
   stopping = y.stopping ∙ x.stopping;
   sure = λ h k. y.sure (x.steady h) (x.stopping ∙ k) ∙ x.sure h k;
+  lasting = λ fact h. y.lasting fact (x.lasting fact h);
 }
 
 pub SameState-refl : (v : RackView) → SameState v v

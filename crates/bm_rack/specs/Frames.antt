@@ -1,5 +1,5 @@
 -- What a call leaves as it was, and what it counts.
-use Rattle.std.specs.Prelude.{◌≡◌, ℕ, ◌≤◌, false, IsTrue, IsFalse}
+use Rattle.std.specs.Prelude.{◌≡◌, ℕ, ◌≤◌, false, IsTrue, IsFalse, List}
 use Rattle.bm_base.specs.Contents.{RackUnit, unit_at}
 use Rattle.bm_base.specs.Count.{raised, Rose}
 use Rattle.bm_rack.specs.RackView.{RackView}
@@ -10,6 +10,7 @@ pub record Keeps (old new : RackView) : Type 0 where
   pub steady : IsTrue old.steady → IsTrue new.steady
   pub stopping : new.stopping ≡ old.stopping
   pub sure : IsTrue old.steady → IsFalse old.stopping → new.faults ≡ old.faults
+  pub lasting : (fact : List ℕ) → IsTrue (old.lasting fact) → IsTrue (new.lasting fact)
 
 -- so many row calls, page calls and syncs were made
 pub record RaisesCounts (m p s : ℕ) (old new : RackView) : Type 0 where

@@ -1,5 +1,5 @@
 -- What a contract sees of a rack.
-use Rattle.std.specs.Prelude.{◌≡◌, ℕ, ◌^◌, ◌<◌, Bool, false, IsTrue, Option, Some}
+use Rattle.std.specs.Prelude.{◌≡◌, ℕ, ◌^◌, ◌<◌, Bool, false, IsTrue, List, Option, Some}
 use Rattle.bm_base.specs.declared.dims.Dims.{Dims}
 use Rattle.bm_base.specs.Contents.{Contents, RackUnit, HasSizes}
 
@@ -22,6 +22,9 @@ pub record RackView : Type 0 where
   pub steady : Bool
   -- a stop is ahead, or was reached
   pub stopping : Bool
+  -- Facts of the rack's own that no call takes back, each named by a list of numbers: one that is made of several racks tells so what became
+  -- of them. Others have none.
+  pub lasting : List ℕ → Bool
 
 -- The parts of a view agree, at every moment.
 pub record IsWellFormed (tells_stands tells_contents : Bool) (v : RackView) : Type 0 where

@@ -21,4 +21,5 @@ untold_view attached faults moves pages syncs = record {
   syncs = syncs;
   steady = false;
   stopping = false;
+  lasting = λ fact. false;
 }

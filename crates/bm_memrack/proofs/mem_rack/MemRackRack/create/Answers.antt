@@ -16,4 +16,5 @@ returns-in-Ok-clause-keeps c = record {
   steady = λ steady. subst (λ (numbers : List ℕ). IsTrue (is_empty numbers)) (sym (ap (λ v. v.items) c.fails.ensures.numbers)) steady;
   stopping = c.fails.ensures.stopping;
   sure = λ _ _. c.fails.ensures.quiet c.if-fails.false;
+  lasting = λ _ h. h;
 }
