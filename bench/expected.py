@@ -114,17 +114,27 @@ def moved(data, name, width):
     return b"".join(records)
 
 
-def transformed(data, name):
+# Of each transform what it makes of the numbers at two addresses without and with a bit, and which
+# bits it takes: each, or each second one.
+KERNELS = {
+    "butterflies": (lambda u, v: (u + v, u - v), 1),
+    "sums": (lambda u, v: (u, u + v), 1),
+    "differences": (lambda u, v: (u, v - u), 1),
+    "even-sums": (lambda u, v: (u, u + v), 2),
+}
+
+
+def transformed(data, name, kernel, step):
     """The transform of numbers of 8 bytes, of which number x stands at its place by the map."""
     bits = (LOAD_BYTES // 8).bit_length() - 1
     where = places(name, bits)
     at_places = [int.from_bytes(data[8 * i : 8 * i + 8], "little") for i in range(1 << bits)]
     numbers = [at_places[place] for place in where]
-    for i in range(bits):
+    for i in range(0, bits, step):
         for x in range(1 << bits):
             if not x >> i & 1:
-                u, v = numbers[x], numbers[x | 1 << i]
-                numbers[x], numbers[x | 1 << i] = (u + v) % 2**64, (u - v) % 2**64
+                u, v = kernel(numbers[x], numbers[x | 1 << i])
+                numbers[x], numbers[x | 1 << i] = u % 2**64, v % 2**64
     for place, number in zip(where, numbers):
         at_places[place] = number
     return b"".join(number.to_bytes(8, "little") for number in at_places)
@@ -149,7 +159,8 @@ def main():
     print_placings(data, ("identity", "gray", "transpose", "bit-reversal", "random"), WIDTHS)
     print_placings(data, ("leading-identity", "32-streams", "256-streams", "morton"), PLAN_WIDTHS)
     for name in ("identity", "gray", "bit-reversal"):
-        print_line("butterflies", name, 8, transformed(data, name))
+        for act, (kernel, step) in KERNELS.items():
+            print_line(act, name, 8, transformed(data, name, kernel, step))
     for name in ("identity", "gray", "transpose", "bit-reversal", "random"):
         for width in (8, 64):
             print_line("pass", name, width, moved(data, name, width))

@@ -359,38 +359,65 @@ fn number_of(bytes: &[u8]) -> u64 {
     u64::from_le_bytes(bytes.try_into().unwrap())
 }
 
-/// The butterfly on two numbers.
-#[inline(always)]
-fn pair(u: u64, v: u64) -> (u64, u64) {
-    (u.wrapping_add(v), u.wrapping_sub(v))
+/// What a transform makes of a pair of numbers.
+trait Kernel {
+    fn pair(u: u64, v: u64) -> (u64, u64);
 }
 
-/// The butterflies on two bits of four numbers.
+/// The butterfly.
+struct Signs;
+
+impl Kernel for Signs {
+    #[inline(always)]
+    fn pair(u: u64, v: u64) -> (u64, u64) {
+        (u.wrapping_add(v), u.wrapping_sub(v))
+    }
+}
+
+struct Sums;
+
+impl Kernel for Sums {
+    #[inline(always)]
+    fn pair(u: u64, v: u64) -> (u64, u64) {
+        (u, u.wrapping_add(v))
+    }
+}
+
+struct Differences;
+
+impl Kernel for Differences {
+    #[inline(always)]
+    fn pair(u: u64, v: u64) -> (u64, u64) {
+        (u, v.wrapping_sub(u))
+    }
+}
+
+/// A kernel on two bits of four numbers.
 #[inline(always)]
-fn quadruple(numbers: [u64; 4]) -> [u64; 4] {
-    let (a, b) = pair(numbers[0], numbers[1]);
-    let (c, d) = pair(numbers[2], numbers[3]);
-    let (first, third) = pair(a, c);
-    let (second, fourth) = pair(b, d);
+fn quadruple<K: Kernel>(numbers: [u64; 4]) -> [u64; 4] {
+    let (a, b) = K::pair(numbers[0], numbers[1]);
+    let (c, d) = K::pair(numbers[2], numbers[3]);
+    let (first, third) = K::pair(a, c);
+    let (second, fourth) = K::pair(b, d);
     [first, second, third, fourth]
 }
 
 /// One level on records in order: pairs `half` bytes apart.
 #[inline(never)]
-fn level(load: &mut [u8], half: usize) {
+fn level<K: Kernel>(load: &mut [u8], half: usize) {
     for block in load.chunks_exact_mut(2 * half) {
         let (low, high) = block.split_at_mut(half);
         for (x, y) in low.chunks_exact_mut(8).zip(high.chunks_exact_mut(8)) {
-            let (sum, difference) = pair(number_of(x), number_of(y));
-            x.copy_from_slice(&sum.to_le_bytes());
-            y.copy_from_slice(&difference.to_le_bytes());
+            let (first, second) = K::pair(number_of(x), number_of(y));
+            x.copy_from_slice(&first.to_le_bytes());
+            y.copy_from_slice(&second.to_le_bytes());
         }
     }
 }
 
 /// Two levels on records in order: pairs `quarter` and twice as many bytes apart.
 #[inline(never)]
-fn two_levels(load: &mut [u8], quarter: usize) {
+fn two_levels<K: Kernel>(load: &mut [u8], quarter: usize) {
     for block in load.chunks_exact_mut(4 * quarter) {
         let (low, high) = block.split_at_mut(2 * quarter);
         let (first, second) = low.split_at_mut(quarter);
@@ -398,7 +425,7 @@ fn two_levels(load: &mut [u8], quarter: usize) {
         let lows = first.chunks_exact_mut(8).zip(second.chunks_exact_mut(8));
         let highs = third.chunks_exact_mut(8).zip(fourth.chunks_exact_mut(8));
         for ((x, y), (z, w)) in lows.zip(highs) {
-            let numbers = quadruple([number_of(x), number_of(y), number_of(z), number_of(w)]);
+            let numbers = quadruple::<K>([number_of(x), number_of(y), number_of(z), number_of(w)]);
             x.copy_from_slice(&numbers[0].to_le_bytes());
             y.copy_from_slice(&numbers[1].to_le_bytes());
             z.copy_from_slice(&numbers[2].to_le_bytes());
@@ -416,16 +443,16 @@ fn set_number(load: &mut [u8], place: u64, number: u64) {
     load[at..at + 8].copy_from_slice(&number.to_le_bytes());
 }
 
-/// Two levels on bits i and i + 1 of the numbers, where number x stands at its place by the map.
+/// Two levels on bits i and j of the numbers, i < j, where number x stands at its place by the map.
 #[inline(never)]
-fn two_levels_by_numbers(load: &mut [u8], columns: &[u64], i: usize) {
+fn two_levels_by_numbers<K: Kernel>(load: &mut [u8], columns: &[u64], i: usize, j: usize) {
     let mut others = columns.to_vec();
-    let pair_columns: Vec<u64> = others.drain(i..i + 2).collect();
-    let (one, two) = (pair_columns[0], pair_columns[1]);
+    let two = others.remove(j);
+    let one = others.remove(i);
     let mut stepper = Stepper::start(&others, 0);
     for _ in 0..1u64 << others.len() {
         let place = stepper.here;
-        let numbers = quadruple([
+        let numbers = quadruple::<K>([
             number_at(load, place),
             number_at(load, place ^ one),
             number_at(load, place ^ two),
@@ -441,46 +468,46 @@ fn two_levels_by_numbers(load: &mut [u8], columns: &[u64], i: usize) {
 
 /// One level on bit i of the numbers.
 #[inline(never)]
-fn level_by_numbers(load: &mut [u8], columns: &[u64], i: usize) {
+fn level_by_numbers<K: Kernel>(load: &mut [u8], columns: &[u64], i: usize) {
     let mut others = columns.to_vec();
     let one = others.remove(i);
     let mut stepper = Stepper::start(&others, 0);
     for _ in 0..1u64 << others.len() {
         let (place, partner) = (stepper.here, stepper.here ^ one);
-        let (sum, difference) = pair(number_at(load, place), number_at(load, partner));
-        set_number(load, place, sum);
-        set_number(load, partner, difference);
+        let (first, second) = K::pair(number_at(load, place), number_at(load, partner));
+        set_number(load, place, first);
+        set_number(load, partner, second);
         stepper.step();
     }
 }
 
 /// The transform level by level.
-fn transform_by_ones(load: &mut [u8], columns: &[u64]) {
+fn transform_by_ones<K: Kernel>(load: &mut [u8], columns: &[u64]) {
     for (i, column) in columns.iter().enumerate() {
         if columns.iter().all(|column| column.is_power_of_two()) {
-            level(load, 8 * *column as usize);
+            level::<K>(load, 8 * *column as usize);
         } else {
-            level_by_numbers(load, columns, i);
+            level_by_numbers::<K>(load, columns, i);
         }
     }
 }
 
 /// The transform two levels at a time. In the maps that permute the bits of a number, the bits of
 /// two levels are neighbours.
-fn transform_by_twos(load: &mut [u8], columns: &[u64]) {
+fn transform_by_twos<K: Kernel>(load: &mut [u8], columns: &[u64]) {
     let permutes_bits = columns.iter().all(|column| column.is_power_of_two());
     let last = columns.len() / 2 * 2;
     for i in (0..last).step_by(2) {
         if permutes_bits {
-            two_levels(load, 8 * columns[i].min(columns[i + 1]) as usize);
+            two_levels::<K>(load, 8 * columns[i].min(columns[i + 1]) as usize);
         } else {
-            two_levels_by_numbers(load, columns, i);
+            two_levels_by_numbers::<K>(load, columns, i, i + 1);
         }
     }
     if last < columns.len() && permutes_bits {
-        level(load, 8 * columns[last] as usize);
+        level::<K>(load, 8 * columns[last] as usize);
     } else if last < columns.len() {
-        level_by_numbers(load, columns, last);
+        level_by_numbers::<K>(load, columns, last);
     }
 }
 
@@ -488,23 +515,67 @@ fn transform_by_twos(load: &mut [u8], columns: &[u64]) {
 const BLOCK_BITS: usize = 16;
 
 /// The transform two levels at a time, where the low bits that keep their places go block by block.
-fn transform_by_blocks(load: &mut [u8], columns: &[u64]) {
+fn transform_by_blocks<K: Kernel>(load: &mut [u8], columns: &[u64]) {
     let kept = columns.iter().enumerate().take_while(|(j, column)| **column == 1 << j);
     let bits = kept.count().min(BLOCK_BITS) / 2 * 2;
     if !columns.iter().all(|column| column.is_power_of_two()) || bits == 0 {
-        return transform_by_twos(load, columns);
+        return transform_by_twos::<K>(load, columns);
     }
     for block in load.chunks_exact_mut(8 << bits) {
         for i in (0..bits).step_by(2) {
-            two_levels(block, 8 << i);
+            two_levels::<K>(block, 8 << i);
         }
     }
     let last = columns.len() / 2 * 2;
     for i in (bits..last).step_by(2) {
-        two_levels(load, 8 * columns[i].min(columns[i + 1]) as usize);
+        two_levels::<K>(load, 8 * columns[i].min(columns[i + 1]) as usize);
     }
     if last < columns.len() {
-        level(load, 8 * columns[last] as usize);
+        level::<K>(load, 8 * columns[last] as usize);
+    }
+}
+
+/// Two levels on records in order, of bits with these distances in bytes, the first the less.
+#[inline(never)]
+fn two_levels_apart<K: Kernel>(load: &mut [u8], near: usize, far: usize) {
+    for block in load.chunks_exact_mut(2 * far) {
+        let (low, high) = block.split_at_mut(far);
+        let lows = low.chunks_exact_mut(2 * near);
+        for (low, high) in lows.zip(high.chunks_exact_mut(2 * near)) {
+            let (first, second) = low.split_at_mut(near);
+            let (third, fourth) = high.split_at_mut(near);
+            let lows = first.chunks_exact_mut(8).zip(second.chunks_exact_mut(8));
+            let highs = third.chunks_exact_mut(8).zip(fourth.chunks_exact_mut(8));
+            for ((x, y), (z, w)) in lows.zip(highs) {
+                let numbers = [number_of(x), number_of(y), number_of(z), number_of(w)];
+                let numbers = quadruple::<K>(numbers);
+                x.copy_from_slice(&numbers[0].to_le_bytes());
+                y.copy_from_slice(&numbers[1].to_le_bytes());
+                z.copy_from_slice(&numbers[2].to_le_bytes());
+                w.copy_from_slice(&numbers[3].to_le_bytes());
+            }
+        }
+    }
+}
+
+/// The transform over the bits of even number, two levels at a time.
+fn transform_even<K: Kernel>(load: &mut [u8], columns: &[u64]) {
+    let permutes_bits = columns.iter().all(|column| column.is_power_of_two());
+    let last = columns.len() / 4 * 4;
+    for i in (0..last).step_by(4) {
+        let (one, two) = (columns[i], columns[i + 2]);
+        if permutes_bits {
+            two_levels_apart::<K>(load, 8 * one.min(two) as usize, 8 * one.max(two) as usize);
+        } else {
+            two_levels_by_numbers::<K>(load, columns, i, i + 2);
+        }
+    }
+    for i in (last..columns.len()).step_by(2) {
+        if permutes_bits {
+            level::<K>(load, 8 * columns[i] as usize);
+        } else {
+            level_by_numbers::<K>(load, columns, i);
+        }
     }
 }
 
@@ -698,11 +769,14 @@ fn place_plans(sizes: Sizes) {
 
 fn transform_all(sizes: Sizes) {
     for map in ["identity", "gray", "bit-reversal"] {
-        transform(sizes, map, "butterflies", transform_by_blocks);
+        transform(sizes, map, "butterflies", transform_by_blocks::<Signs>);
         if sizes.measured {
-            transform(sizes, map, "by-twos", transform_by_twos);
-            transform(sizes, map, "by-ones", transform_by_ones);
+            transform(sizes, map, "by-twos", transform_by_twos::<Signs>);
+            transform(sizes, map, "by-ones", transform_by_ones::<Signs>);
         }
+        transform(sizes, map, "sums", transform_by_blocks::<Sums>);
+        transform(sizes, map, "differences", transform_by_blocks::<Differences>);
+        transform(sizes, map, "even-sums", transform_even::<Sums>);
     }
 }
 

@@ -1,5 +1,5 @@
 #!/usr/bin/env python3
-"""Measures placing, butterflies and passes in memory beside plain Rust loops.
+"""Measures placing, butterflies, kernels and passes in memory beside plain Rust loops.
 
     python3 bench/speed.py [ROUNDS]
 
@@ -30,6 +30,9 @@ RUST_FORMS = {
     "copy": ("copy",),
     "two-step": ("stepped", "two-step"),
     "butterflies": ("butterflies", "by-twos", "by-ones"),
+    "sums": ("sums",),
+    "differences": ("differences",),
+    "even-sums": ("even-sums",),
     "pass": ("pass", "pass-stepped"),
 }
 
@@ -48,6 +51,10 @@ ROWS = [
     ("two-step", "morton", 8, 64),
     ("butterflies", "identity", 8, 16),
     ("butterflies", "identity", 8, 64),
+    ("sums", "identity", 8, 64),
+    ("differences", "identity", 8, 64),
+    ("even-sums", "identity", 8, 64),
+    ("even-sums", "gray", 8, 64),
     ("pass", "identity", 64, 16),
     ("pass", "bit-reversal", 8, 16),
 ]
@@ -155,12 +162,15 @@ def other_rows(best, act):
 
 def print_results(best):
     """All tables."""
-    print("# Placing, butterflies and passes in memory")
+    print("# Placing, butterflies, kernels and passes in memory")
     print()
     print("Written by `python3 bench/speed.py`. MB/s are millions of bytes of records a second.")
     print_placings(best)
     columns = "map,width,MiB,butterflies,Rust by blocks,Rust by two bits,Rust by one bit,part of Rust's"
     print_table(columns.split(","), other_rows(best, "butterflies"))
+    for kernel in ("sums", "differences", "even-sums"):
+        columns = f"map,width,MiB,{kernel},Rust,part of Rust's"
+        print_table(columns.split(","), other_rows(best, kernel))
     columns = "map,width,MiB,pass,Rust in two steps,Rust stepped,part of Rust's"
     print_table(columns.split(","), other_rows(best, "pass"))
 

@@ -11,7 +11,7 @@ use Rattle.bm_butter.specs.Pairs.{AreHalves}
 use Rattle.bm_butter.specs.Groups.{pick, AreTold, AreCorners, IsCorner, GroupsDone, spread, spread_two, corner_place, run_place}
 use Rattle.bm_butter.proofs.SpreadLemmas.{squeeze_two, squeeze_two-told, spread_two-lt, split_blocks, join_blocks, two_halves}
 use Rattle.bm_butter.proofs.SpreadLemmas.{twice_as_many}
-use Rattle.bm_butter.proofs.QuadLemmas.{by_four}
+use Rattle.bm_butter.proofs.FourLemmas.{by_four}
 
 -- the group of a place is told
 pub corner_group : (low high p q r s w t : ℕ) → low < high → AreCorners low high p q r s → t < 4
@@ -164,13 +164,13 @@ either_sum i o u v differ first second =
     (cases_lt i o)
 
 -- each place of a pair
-half_sum : (bit sum difference : ℕ) → AreHalves bit sum difference → (sum ≡ 0) ⊎ (sum ≡ 2 ^ bit)
-half_sum bit sum difference halves =
-    ⊎_elim (λ (p : sum ≡ 0). inl p) (λ (p : sum ≢ 0). inr (omega (arith, halves.0, halves.1))) (cases_eq sum 0)
+half_sum : (bit at_u at_v : ℕ) → AreHalves bit at_u at_v → (at_u ≡ 0) ⊎ (at_u ≡ 2 ^ bit)
+half_sum bit at_u at_v halves =
+    ⊎_elim (λ (p : at_u ≡ 0). inl p) (λ (p : at_u ≢ 0). inr (omega (arith, halves.0, halves.1))) (cases_eq at_u 0)
 
-half_difference : (bit sum difference : ℕ) → AreHalves bit sum difference → (difference ≡ 0) ⊎ (difference ≡ 2 ^ bit)
-half_difference bit sum difference halves =
-    ⊎_elim (λ (p : difference ≡ 0). inl p) (λ (p : difference ≢ 0). inr (omega (arith, halves.0, halves.1))) (cases_eq difference 0)
+half_difference : (bit at_u at_v : ℕ) → AreHalves bit at_u at_v → (at_v ≡ 0) ⊎ (at_v ≡ 2 ^ bit)
+half_difference bit at_u at_v halves =
+    ⊎_elim (λ (p : at_v ≡ 0). inl p) (λ (p : at_v ≢ 0). inr (omega (arith, halves.0, halves.1))) (cases_eq at_v 0)
 
 -- powers of different numbers are apart
 pow_apart : (i o : ℕ) → i ≢ o → 2 ^ i ≢ 2 ^ o
@@ -207,8 +207,8 @@ AreCorners-halves i o a b c d differ inner outer =
     }
 
 -- both places of a pair, within the powers that are used
-pub half_fits : (bit sum difference : ℕ) → bit < 61 → AreHalves bit sum difference → (sum ≤ 2 ^ 60) × (difference ≤ 2 ^ 60)
-half_fits bit sum difference few halves =
+pub half_fits : (bit at_u at_v : ℕ) → bit < 61 → AreHalves bit at_u at_v → (at_u ≤ 2 ^ 60) × (at_v ≤ 2 ^ 60)
+half_fits bit at_u at_v few halves =
     let most : 2 ^ bit ≤ 2 ^ 60 = pow_mono {i = bit} {j = 60} (omega arith) in
     (omega (arith, halves.0), omega (arith, halves.0))
 
@@ -250,13 +250,14 @@ run_count low high m order fits =
     mod-eq_of_lt (omega arith)
 
 -- the same groups, by other names
-pub GroupsDone-as : (low high p q r s count l h u v x y n : ℕ) (old new : List ℕ) → low ≡ l → high ≡ h → p ≡ u → q ≡ v → r ≡ x → s ≡ y
-    → count ≡ n → GroupsDone (corner_place low high p q r s) 0 count old new → GroupsDone (corner_place l h u v x y) 0 n old new
-GroupsDone-as low high p q r s count l h u v x y n old new is_l is_h is_u is_v is_x is_y is_n made =
-    subst (λ k. GroupsDone (corner_place k h u v x y) 0 n old new) is_l
-    (subst (λ k. GroupsDone (corner_place low k u v x y) 0 n old new) is_h
-    (subst (λ k. GroupsDone (corner_place low high k v x y) 0 n old new) is_u
-    (subst (λ k. GroupsDone (corner_place low high p k x y) 0 n old new) is_v
-    (subst (λ k. GroupsDone (corner_place low high p q k y) 0 n old new) is_x
-    (subst (λ k. GroupsDone (corner_place low high p q r k) 0 n old new) is_y
-    (subst (λ k. GroupsDone (corner_place low high p q r s) 0 k old new) is_n made))))))
+pub GroupsDone-as : (f : ℕ → ℕ → ℕ × ℕ) (low high p q r s count l h u v x y n : ℕ) (old new : List ℕ) → low ≡ l → high ≡ h → p ≡ u
+    → q ≡ v → r ≡ x → s ≡ y
+    → count ≡ n → GroupsDone f (corner_place low high p q r s) 0 count old new → GroupsDone f (corner_place l h u v x y) 0 n old new
+GroupsDone-as f low high p q r s count l h u v x y n old new is_l is_h is_u is_v is_x is_y is_n made =
+    subst (λ k. GroupsDone f (corner_place k h u v x y) 0 n old new) is_l
+    (subst (λ k. GroupsDone f (corner_place low k u v x y) 0 n old new) is_h
+    (subst (λ k. GroupsDone f (corner_place low high k v x y) 0 n old new) is_u
+    (subst (λ k. GroupsDone f (corner_place low high p k x y) 0 n old new) is_v
+    (subst (λ k. GroupsDone f (corner_place low high p q k y) 0 n old new) is_x
+    (subst (λ k. GroupsDone f (corner_place low high p q r k) 0 n old new) is_y
+    (subst (λ k. GroupsDone f (corner_place low high p q r s) 0 k old new) is_n made))))))

@@ -1,3 +1,7 @@
+pub mod FourLemmas
+pub mod OnBitLemmas
+pub mod KernelLemmas
+pub mod SignLemmas
 pub mod RecordLemmas
 pub mod PairLemmas
 pub mod PlaceLemmas

@@ -1,11 +1,9 @@
 -- The places of numbers.
-use Rattle.std.proofs.Common.{◌≡◌, ◌≢◌, ℕ, zero, suc, ◌⊎◌, inl, inr, ⊎_elim, ◌+◌, ◌-◌, ◌*◌, ◌/◌, ◌%◌, ◌^◌, ◌<◌, bit_xor, List, sym, ap, ◌∙◌}
+use Rattle.std.proofs.Common.{◌≡◌, ◌≢◌, ℕ, zero, suc, ◌⊎◌, inl, inr, ⊎_elim, ◌+◌, ◌-◌, ◌*◌, ◌%◌, ◌^◌, ◌<◌, bit_xor, List, sym, ap, ◌∙◌}
 use Rattle.std.proofs.Common.{subst, arith}
 use Rattle.std.specs.Int.{bit_at}
-use Rattle.std.specs.Int.Bits.{xor_shifted, xor_assoc}
-use Rattle.std.proofs.lemmas.Nat.{xor_comm, xor_lt, pow_pos}
-use Rattle.std.proofs.Math.Nat.{mod-add-div', two-pow-succ}
-use Rattle.bm_base.specs.Butterfly.{number_in, record_of, negative}
+use Rattle.std.specs.Int.Bits.{xor_assoc}
+use Rattle.std.proofs.lemmas.Nat.{xor_lt, pow_pos}
 use Rattle.bm_gf2.specs.declared.matrix.Matrix.{Matrix}
 use Rattle.bm_gf2.specs.declared.affine.Affine.{Affine}
 use Rattle.bm_gf2.specs.Affine.{affine_image}
@@ -19,7 +17,8 @@ use Rattle.bm_butter.specs.LoneBit.{IsLoneBit}
 use Rattle.bm_gf2.proofs.MapLemmas.{images_apart}
 use Rattle.bm_gf2.proofs.VectorLemmas.{bit_cases, xor_cancel_right, xor_sum-xor, xor_sum-pow, xor_sum-lt}
 use Rattle.bm_butter.specs.Records.{record_in_order, record_at_place}
-use Rattle.bm_butter.proofs.PairedLemmas.{clear_low}
+use Rattle.bm_butter.proofs.OnBitLemmas.{flip}
+use Rattle.bm_butter.proofs.PairedLemmas.{set_by_xor}
 use Rattle.bm_butter.proofs.PairLemmas.{PairsBelow, PairsBelow-pair}
 
 -- the place of a number
@@ -30,31 +29,17 @@ place a plus x = bit_xor plus (image a x)
 pub place_below : (a : Matrix) (plus x : ℕ) → plus < 2 ^ a.n → place a plus x < 2 ^ a.n
 place_below a plus x short = xor_lt a.n plus (image a x) short (xor_sum-lt (column a) a.n a.n x a.below)
 
--- setting a clear bit is an XOR
-pub set_by_xor : (i x : ℕ) → bit_at x i ≡ 0 → x + 2 ^ i ≡ bit_xor x (2 ^ i)
-set_by_xor i x clear =
-    let q = x / 2 ^ (i + 1) in
-    let r = x % 2 ^ (i + 1) in
-    let two : 2 ^ (i + 1) ≡ 2 ^ i + 2 ^ i = ap (λ c. 2 ^ c) (let e : i + 1 ≡ suc i = omega arith in e) ∙ two-pow-succ i in
-    let small : r < 2 ^ i = clear_low i x clear in
-    let parts : r + q * 2 ^ (i + 1) ≡ x = mod-add-div' x (2 ^ (i + 1)) in
-    let whole : bit_xor (q * 2 ^ (i + 1)) r ≡ x = xor_shifted q (i + 1) r (omega arith)
-    ∙ (let e : q * 2 ^ (i + 1) + r ≡ x = omega arith in e) in
-    let bit : bit_xor (1 * 2 ^ i) r ≡ 1 * 2 ^ i + r = xor_shifted 1 i r small in
-    let one : 1 * 2 ^ i ≡ 2 ^ i = omega arith in
-    let both : bit_xor (q * 2 ^ (i + 1)) (1 * 2 ^ i + r) ≡ q * 2 ^ (i + 1) + (1 * 2 ^ i + r) =
-    xor_shifted q (i + 1) (1 * 2 ^ i + r) (omega arith) in
-    let sum : x + 2 ^ i ≡ q * 2 ^ (i + 1) + (1 * 2 ^ i + r) = omega arith in
-    sum ∙ sym both ∙ ap (bit_xor (q * 2 ^ (i + 1))) (sym bit ∙ ap (λ c. bit_xor c r) one ∙ xor_comm (2 ^ i) r)
-    ∙ sym (xor_assoc (q * 2 ^ (i + 1)) r (2 ^ i)) ∙ ap (λ c. bit_xor c (2 ^ i)) whole
+-- the place of the number with a bit turned
+pub place_turned : (a : Matrix) (plus i x : ℕ) → i < a.n → bit_xor (place a plus x) (column a i) ≡ place a plus (flip x i)
+place_turned a plus i x inside =
+    xor_assoc plus (image a x) (column a i)
+    ∙ ap (bit_xor plus) (ap (bit_xor (image a x)) (sym (xor_sum-pow (column a) a.n i inside))
+    ∙ sym (xor_sum-xor (column a) a.n x (2 ^ i)))
 
 -- the place of the number with the bit
 pub place_with_bit : (a : Matrix) (plus i x : ℕ) → i < a.n → bit_at x i ≡ 0
     → bit_xor (place a plus x) (column a i) ≡ place a plus (x + 2 ^ i)
-place_with_bit a plus i x inside clear =
-    xor_assoc plus (image a x) (column a i)
-    ∙ ap (bit_xor plus) (ap (bit_xor (image a x)) (sym (xor_sum-pow (column a) a.n i inside))
-    ∙ sym (xor_sum-xor (column a) a.n x (2 ^ i)) ∙ ap (image a) (sym (set_by_xor i x clear)))
+place_with_bit a plus i x inside clear = place_turned a plus i x inside ∙ ap (place a plus) (sym (set_by_xor i x clear))
 
 -- the places p and q of the pair of x
 pub record HoldPair (a : Matrix) (plus i x p q : ℕ) : Type 0 where
@@ -81,23 +66,19 @@ HoldPair-by_column a plus i x p col nonsingular short bit inside clear here is_c
     }
 
 -- one pair more, made at its places
-pub PairsBelow-places : (a : Matrix) (plus i x p q : ℕ) (old now new : List ℕ) → IsNonsingular a → i < a.n → x < 2 ^ a.n → bit_at x i ≡ 0
+pub PairsBelow-places : (f : ℕ → ℕ → ℕ × ℕ) (a : Matrix) (plus i x p q : ℕ) (old now new : List ℕ) → IsNonsingular a → i < a.n
+    → x < 2 ^ a.n → bit_at x i ≡ 0
     → HoldPair a plus i x p q
-    → PairsBelow a.n i x (record_at_place a plus old) (record_at_place a plus now)
-    → record_in_order new p ≡ record_of (number_in (record_in_order now p) + number_in (record_in_order now q))
-    → record_in_order new q ≡ record_of (number_in (record_in_order now p) + negative (number_in (record_in_order now q)))
+    → PairsBelow f a.n i x (record_at_place a plus old) (record_at_place a plus now)
+    → IsPaired f now new p q
     → ((k : ℕ) → k ≢ p → k ≢ q → record_in_order new k ≡ record_in_order now k)
-    → PairsBelow a.n i (x + 1) (record_at_place a plus old) (record_at_place a plus new)
-PairsBelow-places a plus i x p q old now new nonsingular bit inside clear hold before sum difference others =
-    PairsBelow-pair a.n i x (record_at_place a plus old) (record_at_place a plus now) (record_at_place a plus new) inside bit clear before
-    (subst (λ c. record_in_order new c ≡ record_of
-    (number_in (record_in_order now c) + number_in (record_at_place a plus now (x + 2 ^ i)))) hold.first
-    (subst (λ c. record_in_order new p ≡ record_of (number_in (record_in_order now p) + number_in (record_in_order now c))) hold.second
-    sum))
-    (subst (λ c. record_at_place a plus new (x + 2 ^ i) ≡ record_of
-    (number_in (record_in_order now c) + negative (number_in (record_at_place a plus now (x + 2 ^ i))))) hold.first
-    (subst (λ c. record_in_order new c ≡ record_of (number_in (record_in_order now p) + negative (number_in (record_in_order now c))))
-    hold.second difference))
+    → PairsBelow f a.n i (x + 1) (record_at_place a plus old) (record_at_place a plus new)
+PairsBelow-places f a plus i x p q old now new nonsingular bit inside clear hold before paired others =
+    let pair : IsPaired f now new (place a plus x) (place a plus (x + 2 ^ i)) =
+    subst (λ c. IsPaired f now new c (place a plus (x + 2 ^ i))) hold.first
+    (subst (λ c. IsPaired f now new p c) hold.second paired) in
+    PairsBelow-pair f a.n i x (record_at_place a plus old) (record_at_place a plus now) (record_at_place a plus new) inside bit clear before
+    pair.first pair.second
     (λ z below not_x not_set. others (place a plus z)
     (λ e. images_apart a plus z x nonsingular below inside not_x (e ∙ hold.first))
     (λ e. images_apart a plus z (x + 2 ^ i) nonsingular below (set_below x i a.n inside bit clear) not_set (e ∙ hold.second)))
@@ -132,34 +113,34 @@ lone_place a plus i h y lone clear =
     ∙ (let e : (bit_at plus h + 0) % 2 ≡ bit_at plus h = omega arith in e)
 
 -- the pair of a number, where its bit is one bit of the places
-pub IsPaired-lone : (a : Matrix) (plus i h y sum difference : ℕ) (old new : List ℕ) → plus < 2 ^ a.n → i < a.n → y < 2 ^ a.n
+pub IsPaired-lone : (f : ℕ → ℕ → ℕ × ℕ) (a : Matrix) (plus i h y at_u at_v : ℕ) (old new : List ℕ) → plus < 2 ^ a.n → i < a.n → y < 2 ^ a.n
     → bit_at y i ≡ 0
     → IsLoneBit a i h
-    → (bit_at plus h ≡ 0 → (sum ≡ 0) × (difference ≡ 2 ^ h)) → (bit_at plus h ≡ 1 → (sum ≡ 2 ^ h) × (difference ≡ 0))
-    → ((x : ℕ) → x < 2 ^ a.n → bit_at x h ≡ 0 → IsPaired old new (x + sum) (x + difference))
-    → IsPaired old new (place a plus y) (place a plus (y + 2 ^ i))
-IsPaired-lone a plus i h y sum difference old new short bit inside clear lone upright turned paired =
+    → (bit_at plus h ≡ 0 → (at_u ≡ 0) × (at_v ≡ 2 ^ h)) → (bit_at plus h ≡ 1 → (at_u ≡ 2 ^ h) × (at_v ≡ 0))
+    → ((x : ℕ) → x < 2 ^ a.n → bit_at x h ≡ 0 → IsPaired f old new (x + at_u) (x + at_v))
+    → IsPaired f old new (place a plus y) (place a plus (y + 2 ^ i))
+IsPaired-lone f a plus i h y at_u at_v old new short bit inside clear lone upright turned paired =
     let p = place a plus y in
     let low : p < 2 ^ a.n = place_below a plus y short in
     let same : bit_at p h ≡ bit_at plus h = lone_place a plus i h y lone clear in
     let second : bit_xor p (2 ^ h) ≡ place a plus (y + 2 ^ i) = ap (bit_xor p) (sym lone.unit) ∙ place_with_bit a plus i y bit clear in
     let range : bit_at plus h < 2 = bit_at-lt plus h in
-    subst (λ c. IsPaired old new p c) second
+    subst (λ c. IsPaired f old new p c) second
     (⊎_elim
     (λ (z : bit_at plus h ≡ 0).
     let halves = upright z in
-    let q : p + difference ≡ bit_xor p (2 ^ h) = (let e : p + difference ≡ p + 2 ^ h = omega (arith, halves.1) in e)
+    let q : p + at_v ≡ bit_xor p (2 ^ h) = (let e : p + at_v ≡ p + 2 ^ h = omega (arith, halves.1) in e)
     ∙ set_by_xor h p (same ∙ z) in
-    let s : p + sum ≡ p = omega (arith, halves.0) in
-    subst (λ c. IsPaired old new p c) q (subst (λ c. IsPaired old new c (p + difference)) s (paired p low (same ∙ z))))
+    let s : p + at_u ≡ p = omega (arith, halves.0) in
+    subst (λ c. IsPaired f old new p c) q (subst (λ c. IsPaired f old new c (p + at_v)) s (paired p low (same ∙ z))))
     (λ (z : bit_at plus h ≢ 0).
     let one : bit_at plus h ≡ 1 = omega arith in
     let halves = turned one in
     let base = without_bit p h (same ∙ one) in
     let x = p - 2 ^ h in
     let back : x + 2 ^ h ≡ p = omega (arith, base.0) in
-    let s : x + sum ≡ p = omega (arith, halves.0) in
-    let q : x + difference ≡ bit_xor p (2 ^ h) = (let e : x + difference ≡ x = omega (arith, halves.1) in e)
+    let s : x + at_u ≡ p = omega (arith, halves.0) in
+    let q : x + at_v ≡ bit_xor p (2 ^ h) = (let e : x + at_v ≡ x = omega (arith, halves.1) in e)
     ∙ sym (ap (λ c. bit_xor c (2 ^ h)) (sym back ∙ set_by_xor h x base.1) ∙ xor_cancel_right x (2 ^ h)) in
-    subst (λ c. IsPaired old new p c) q (subst (λ c. IsPaired old new c (x + difference)) s (paired x (omega arith) base.1)))
+    subst (λ c. IsPaired f old new p c) q (subst (λ c. IsPaired f old new c (x + at_v)) s (paired x (omega arith) base.1)))
     (cases_eq (bit_at plus h) 0))

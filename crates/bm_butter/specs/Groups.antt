@@ -1,8 +1,8 @@
--- Groups of four records, and the butterflies on two bits within each.
+-- Groups of four records, and a pairing on two bits within each.
 use Rattle.std.specs.Prelude.{ℕ, zero, suc, ◌≡◌, ◌≢◌, ◌+◌, ◌*◌, ◌/◌, ◌^◌, ◌<◌, ◌≤◌, List}
 use Rattle.std.specs.Int.{bit_at}
-use Rattle.bm_base.specs.Butterfly.{butterflies}
 use Rattle.bm_butter.specs.Records.{record_in_order}
+use Rattle.bm_butter.specs.OnBits.{kernel_digits}
 
 -- the one of four that t picks
 unfoldable pub pick : ℕ → ℕ → ℕ → ℕ → ℕ → ℕ
@@ -20,17 +20,17 @@ pub record AreApart (p q r s : ℕ) : Type 0 where
   pub q_s : q ≢ s
   pub r_s : r ≢ s
 
--- the records at four places became what the butterflies on bits 0 and 1 make of a list of the four
-abbrev pub IsGroup : (ℕ → ℕ) → List ℕ → List ℕ → Type 0
-IsGroup place old new = (t : ℕ) → t < 4 → record_in_order new (place t) ≡ butterflies 2 (λ k. record_in_order old (place k)) t
+-- the records at four places became what the pairing on bits 0 and 1 makes of a list of the four
+abbrev pub IsGroup : (ℕ → ℕ → ℕ × ℕ) → (ℕ → ℕ) → List ℕ → List ℕ → Type 0
+IsGroup f place old new = (t : ℕ) → t < 4 → record_in_order new (place t) ≡ kernel_digits f 2 (λ k. record_in_order old (place k)) t
 
 -- different groups below `total` have no place in common; place w t is where number t of group w stands
 abbrev pub AreTold : ℕ → (ℕ → ℕ → ℕ) → Type 0
 AreTold total place = (v w s t : ℕ) → v < total → w < total → s < 4 → t < 4 → place v s ≡ place w t → v ≡ w
 
 -- the groups `from` to `to` are transformed, and nothing else is changed
-pub record GroupsDone (place : ℕ → ℕ → ℕ) (from to : ℕ) (old new : List ℕ) : Type 0 where
-  pub done : (w : ℕ) → from ≤ w → w < to → IsGroup (place w) old new
+pub record GroupsDone (f : ℕ → ℕ → ℕ × ℕ) (place : ℕ → ℕ → ℕ) (from to : ℕ) (old new : List ℕ) : Type 0 where
+  pub done : (w : ℕ) → from ≤ w → w < to → IsGroup f (place w) old new
   pub others : (x : ℕ) → ((w t : ℕ) → from ≤ w → w < to → t < 4 → x ≢ place w t) → record_in_order new x ≡ record_in_order old x
 
 -- z with a clear bit put in below its bits from i on

@@ -1,16 +1,23 @@
-//! The butterflies of the Walsh-Hadamard transform, on records in memory.
+//! The butterflies of the Walsh-Hadamard transform, and other kernels on pairs of numbers, on
+//! records in memory.
 
 #![tactic(auto)]
 
 mod at_places;
 mod blocks;
 mod in_place;
-mod lone_bit;
+mod kernels;
+mod lone;
+mod low_bits;
 mod on_bit;
 mod on_two_bits;
 mod pair;
 mod quad;
 mod without;
 
-pub use at_places::butterflies_at;
+pub use at_places::{one_at, two_at};
 pub use in_place::butterflies;
+pub use kernels::{Differences, Kernel, Signs, Sums, Xors};
+pub use lone::lone_bit;
+pub use low_bits::{butterflies_at, lowest_at};
+pub use pair::{number_at, set_number};

@@ -1,8 +1,10 @@
-//! The butterflies on two bits of the places in a buffer, in one pass over it.
+//! A kernel on two bits of the places in a buffer, in one pass over it.
 
 ghost use Rattle.std.specs.Prelude.{◌≡◌, ◌≢◌, ℕ, ◌+◌, ◌-◌, ◌*◌, ◌^◌, ◌<◌, ◌≤◌, min, max, length};
-ghost use Rattle.bm_butter.specs.Groups.{AreApart, AreTold, AreCorners, GroupsDone, corner_place, run_place, spread};
+ghost use Rattle.bm_butter.specs.Groups.{AreApart, AreTold, AreCorners, GroupsDone};
+ghost use Rattle.bm_butter.specs.Groups.{corner_place, run_place, spread};
 
+use crate::kernels::Kernel;
 use crate::on_bit::Halves;
 use crate::quad::quad;
 
@@ -28,18 +30,18 @@ impl Corners {
         requires { inner.bit ≢ outer.bit }
         ensures low { result.low ≡ min inner.bit outer.bit }
         ensures high { result.high ≡ max inner.bit outer.bit }
-        ensures first { result.first ≡ inner.sum + outer.sum }
-        ensures second { result.second ≡ inner.difference + outer.sum }
-        ensures third { result.third ≡ inner.sum + outer.difference }
-        ensures fourth { result.fourth ≡ inner.difference + outer.difference }
+        ensures first { result.first ≡ inner.at_u + outer.at_u }
+        ensures second { result.second ≡ inner.at_v + outer.at_u }
+        ensures third { result.third ≡ inner.at_u + outer.at_v }
+        ensures fourth { result.fourth ≡ inner.at_v + outer.at_v }
     {
         Corners {
             low: inner.bit.min(outer.bit),
             high: inner.bit.max(outer.bit),
-            first: inner.sum + outer.sum,
-            second: inner.difference + outer.sum,
-            third: inner.sum + outer.difference,
-            fourth: inner.difference + outer.difference,
+            first: inner.at_u + outer.at_u,
+            second: inner.at_v + outer.at_u,
+            third: inner.at_u + outer.at_v,
+            fourth: inner.at_v + outer.at_v,
         }
     }
 }
@@ -56,32 +58,47 @@ fn run_start(corners: &Corners, blocks: usize, run: usize) -> usize
 }
 
 // Transforms so many groups: that of records p, q, r and s, and those that follow.
-fn make_quads(buf: &mut [u8], p: usize, q: usize, r: usize, s: usize, count: usize)
+fn make_quads<K: Kernel>(
+    kernel: &K,
+    buf: &mut [u8],
+    p: usize,
+    q: usize,
+    r: usize,
+    s: usize,
+    count: usize,
+)
     requires apart { AreApart p q r s }
     requires told { AreTold count (run_place p q r s) }
     requires p { (p + count) * 8 ≤ length buf.old }
     requires q { (q + count) * 8 ≤ length buf.old }
     requires r { (r + count) * 8 ≤ length buf.old }
     requires s { (s + count) * 8 ≤ length buf.old }
-    ensures done { GroupsDone (run_place p q r s) 0 count buf.old buf.new }
+    ensures done { GroupsDone (K.meaning kernel.now) (run_place p q r s) 0 count buf.old buf.new }
     ensures size { length buf.new ≡ length buf.old }
 {
     for k in 0..count {
-        quad(buf, p + k, q + k, r + k, s + k);
+        quad(kernel, buf, p + k, q + k, r + k, s + k);
     }
 }
 
 // Transforms the groups of one run: at each corner as many neighbours.
-fn transform_run(buf: &mut [u8], corners: &Corners, blocks: usize, run: usize)
+fn transform_run<K: Kernel>(
+    kernel: &K,
+    buf: &mut [u8],
+    corners: &Corners,
+    blocks: usize,
+    run: usize,
+)
     requires fits { blocks * 2 ^ (corners.now.high + 1) * 8 ≤ length buf.old }
     requires inside { run < blocks * 2 ^ (corners.now.high - corners.now.low - 1) }
-    ensures done { GroupsDone (corner_place corners.now.low corners.now.high
+    ensures done { GroupsDone (K.meaning kernel.now) (corner_place corners.now.low corners.now.high
         corners.now.first corners.now.second corners.now.third corners.now.fourth)
         (run * 2 ^ corners.now.low) ((run + 1) * 2 ^ corners.now.low) buf.old buf.new }
     ensures size { length buf.new ≡ length buf.old }
 {
     let start = run_start(corners, blocks, run);
     make_quads(
+        kernel,
         buf,
         start + corners.first,
         start + corners.second,
@@ -91,16 +108,16 @@ fn transform_run(buf: &mut [u8], corners: &Corners, blocks: usize, run: usize)
     );
 }
 
-/// The butterflies on two bits of the places, in so many blocks from the first on, in one pass over
-/// them. A block has twice as many records as the higher bit's value.
-pub fn butterflies_on(buf: &mut [u8], corners: &Corners, blocks: usize)
+/// A kernel on two bits of the places, in so many blocks from the first on, in one pass over them.
+/// A block has twice as many records as the higher bit's value.
+pub fn mix_two<K: Kernel>(kernel: &K, buf: &mut [u8], corners: &Corners, blocks: usize)
     requires fits { blocks * 2 ^ (corners.now.high + 1) * 8 ≤ length buf.old }
-    ensures done { GroupsDone (corner_place corners.now.low corners.now.high
+    ensures done { GroupsDone (K.meaning kernel.now) (corner_place corners.now.low corners.now.high
         corners.now.first corners.now.second corners.now.third corners.now.fourth)
         0 (blocks * 2 ^ (corners.now.high - 1)) buf.old buf.new }
     ensures size { length buf.new ≡ length buf.old }
 {
     for run in 0..blocks << (corners.high - corners.low - 1) {
-        transform_run(buf, corners, blocks, run);
+        transform_run(kernel, buf, corners, blocks, run);
     }
 }

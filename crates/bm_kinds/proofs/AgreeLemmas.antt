@@ -6,7 +6,7 @@ use Rattle.std.proofs.lemmas.Bool.{cases_eq}
 use Rattle.std.proofs.lemmas.Nat.Bits.{bit_at-lt, bit_at_and, bit_at_or, bit_at_xor, same_from_bits}
 use Rattle.bm_base.proofs.CaseLemmas.{if_same, if_other}
 use Rattle.bm_kinds.specs.Kinds.{outside, inside}
-use Rattle.bm_kinds.proofs.OnBitLemmas.{flip, flip_same, flip_other, flip_clear, flip_set, bit_by}
+use Rattle.bm_butter.proofs.OnBitLemmas.{flip, flip_same, flip_other, flip_clear, flip_set, bit_by}
 use Rattle.bm_kinds.proofs.SetLemmas.{ones_flipped}
 use Rattle.bm_kinds.proofs.TotalLemmas.{choice_same, choice_cancels}
 

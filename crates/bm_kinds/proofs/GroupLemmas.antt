@@ -4,8 +4,8 @@ use Rattle.std.proofs.Common.{ap, ◌∙◌, subst, arith, ⊎_elim, length, sli
 use Rattle.std.proofs.Math.Pow.{pow_mono}
 use Rattle.std.proofs.lemmas.Bool.{cases_eq}
 use Rattle.bm_base.specs.Records.{SameRecords}
-use Rattle.bm_kinds.specs.OnBits.{word, kernel_along, kernel_digits, AreBits}
-use Rattle.bm_kinds.proofs.OnBitLemmas.{flip, kernel_on-same}
+use Rattle.bm_butter.specs.OnBits.{word, kernel_along, kernel_digits, AreBits}
+use Rattle.bm_butter.proofs.OnBitLemmas.{flip, kernel_on-same}
 use Rattle.bm_kinds.proofs.OverLemmas.{kernel_digits-words}
 use Rattle.bm_kinds.proofs.MemberLemmas.{IsBase, number, number_bit, number_flip, number_below, number_base, in_group}
 

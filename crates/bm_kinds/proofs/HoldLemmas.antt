@@ -8,7 +8,7 @@ use Rattle.bm_gf2.proofs.VectorLemmas.{xor_same, xor_sum-xor}
 use Rattle.bm_butter.specs.Records.{record_in_order, record_at_place}
 use Rattle.bm_butter.proofs.PlaceLemmas.{place, place_below}
 use Rattle.bm_butter.proofs.NumberLemmas.{same_number}
-use Rattle.bm_kinds.specs.OnBits.{word, kernel_digits, AreBits}
+use Rattle.bm_butter.specs.OnBits.{word, kernel_digits, AreBits}
 use Rattle.bm_kinds.specs.Groups.{member}
 use Rattle.bm_kinds.proofs.OverLemmas.{kernel_digits-words}
 use Rattle.bm_kinds.proofs.MemberLemmas.{IsBase, number, number_below, number_digits}

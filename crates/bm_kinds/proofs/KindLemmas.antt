@@ -10,14 +10,15 @@ use Rattle.std.proofs.Math.Nat.{mod-lt, mod-one, mod-eq_of_lt}
 use Rattle.bm_base.specs.Butterfly.{negative}
 use Rattle.bm_base.proofs.CaseLemmas.{if_same, if_other}
 use Rattle.bm_gf2.proofs.VectorLemmas.{bit_of_low}
-use Rattle.bm_kinds.specs.OnBits.{word, kernel_over}
+use Rattle.bm_butter.specs.OnBits.{word, kernel_over}
 use Rattle.bm_kinds.specs.Kinds.{Kind, WalshBits, Sums, Differences, Xors, pairing, signed, outside, inside, term, total, transformed}
-use Rattle.bm_kinds.specs.Laws.{keeps_words}
-use Rattle.bm_kinds.proofs.OnBitLemmas.{flip, flip_below, bit_by, same_pair, word_below, word_on-clear, word_on-set}
+use Rattle.bm_butter.specs.Laws.{keeps_words}
+use Rattle.bm_butter.proofs.OnBitLemmas.{flip, flip_below, bit_by, same_pair, word_below, word_on-clear, word_on-set}
 use Rattle.bm_kinds.proofs.OverLemmas.{kernel_over-left, kernel_over-taken}
 use Rattle.bm_kinds.proofs.TotalLemmas.{walsh, sums, differences, total_same, total_plus, total_xor, total_one}
 use Rattle.bm_kinds.proofs.AgreeLemmas.{Adds, bits_within}
-use Rattle.bm_kinds.proofs.TermLemmas.{walsh_clear, walsh_set, sums_set, xors_set, sums_clear, xors_clear, differences_clear, differences_set}
+use Rattle.bm_kinds.proofs.TermLemmas.{walsh_clear, walsh_set, sums_set, xors_set, sums_clear, xors_clear, differences_clear}
+use Rattle.bm_kinds.proofs.TermLemmas.{differences_set}
 
 -- ---- one bit more
 

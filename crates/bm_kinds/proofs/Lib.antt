@@ -1,4 +1,4 @@
-pub mod OnBitLemmas
+pub use Rattle.bm_butter.proofs.OnBitLemmas
 pub mod OverLemmas
 pub mod MemberLemmas
 pub mod GroupLemmas
@@ -8,4 +8,5 @@ pub mod TotalLemmas
 pub mod AgreeLemmas
 pub mod TermLemmas
 pub mod KindLemmas
-pub mod SignLemmas
+pub mod LowRunLemmas
+pub mod RadixLemmas

@@ -5,13 +5,15 @@ use Rattle.std.specs.Int.{bit_at}
 use Rattle.std.specs.Int.Bits.{xor_assoc, xor_zero_r}
 use Rattle.std.proofs.lemmas.Bool.{cases_eq, cases_lt}
 use Rattle.std.proofs.lemmas.Nat.{xor_comm, xor_lt, pow_pos, pow_below, one_shl}
-use Rattle.std.proofs.lemmas.Nat.Bits.{bit_at-lt, bit_at-zero, bit_at_and, bit_at_xor, bit_at-pow_same, bit_at-pow_other, same_from_bits, bit_at_above}
+use Rattle.std.proofs.lemmas.Nat.Bits.{bit_at-lt, bit_at-zero, bit_at_and, bit_at_xor, bit_at-pow_same, bit_at-pow_other, same_from_bits}
+use Rattle.std.proofs.lemmas.Nat.Bits.{bit_at_above}
 use Rattle.bm_gf2.specs.Vector.{xor_sum}
-use Rattle.bm_gf2.proofs.VectorLemmas.{xor_cancel_right, xor_same, xor_sum-xor, xor_sum-bits, xor_sum-pow, xor_sum-lt, xor_sum_taken, xor_sum_left, zero_times}
+use Rattle.bm_gf2.proofs.VectorLemmas.{xor_cancel_right, xor_same, xor_sum-xor, xor_sum-bits, xor_sum-pow, xor_sum-lt, xor_sum_taken}
+use Rattle.bm_gf2.proofs.VectorLemmas.{xor_sum_left, zero_times}
 use Rattle.bm_butter.proofs.PlaceLemmas.{xor_sum-clear}
-use Rattle.bm_kinds.specs.OnBits.{set_of, AreBits}
+use Rattle.bm_butter.specs.OnBits.{set_of, AreBits}
 use Rattle.bm_kinds.specs.Groups.{member}
-use Rattle.bm_kinds.proofs.OnBitLemmas.{flip, flip_other, flip_clear, flip_set, flip_below, bit_by}
+use Rattle.bm_butter.proofs.OnBitLemmas.{flip, flip_other, flip_clear, flip_set, flip_below, bit_by}
 use Rattle.bm_kinds.proofs.OverLemmas.{set_of-some, put_other, AreBits-fewer}
 
 -- a number without the bits

@@ -5,13 +5,10 @@ use Rattle.std.proofs.lemmas.Bool.{cases_eq}
 use Rattle.std.proofs.lemmas.Nat.Bits.{bit_at-lt, bit_at-zero, bit_at_or, bit_at-pow_same, bit_at-pow_other}
 use Rattle.bm_base.specs.Records.{SameRecords}
 use Rattle.bm_base.proofs.CaseLemmas.{if_same, if_other}
-use Rattle.bm_kinds.specs.Pairings.{KeepsWords, Commutes}
-use Rattle.bm_kinds.specs.OnBits.{word, kernel_on, kernel_over, kernel_along, kernel_digits, set_of, AreBits}
-use Rattle.bm_kinds.proofs.OnBitLemmas.{bit_by, kernel_on-words, kernel_on-swap}
-
--- lists with the same records are the same
-pub same_lists : (xs ys : ℕ → List ℕ) → ((x : ℕ) → xs x ≡ ys x) → xs ≡ ys
-same_lists xs ys same = λ i x. same x i
+use Rattle.bm_butter.specs.Pairings.{KeepsWords, Commutes}
+use Rattle.bm_butter.specs.OnBits.{word, kernel_on, kernel_over, kernel_along, kernel_digits, set_of, AreBits}
+use Rattle.bm_butter.proofs.KernelLemmas.{same_lists}
+use Rattle.bm_butter.proofs.OnBitLemmas.{bit_by, kernel_on-words, kernel_on-swap}
 
 -- ---- one bit more
 

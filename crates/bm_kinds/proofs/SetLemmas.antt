@@ -1,22 +1,25 @@
 -- Sets of bits, of which some are taken.
-use Rattle.std.proofs.Common.{ℕ, zero, suc, ◌≡◌, ◌≢◌, ◌+◌, ◌*◌, ◌/◌, ◌%◌, ◌^◌, ◌<◌, ◌≤◌, List, bit_and, bit_or, bit_xor, count_ones, refl, sym, ap, ◌∙◌}
+use Rattle.std.proofs.Common.{ℕ, zero, suc, ◌≡◌, ◌≢◌, ◌+◌, ◌*◌, ◌/◌, ◌%◌, ◌^◌, ◌<◌, ◌≤◌, List, bit_and, bit_or, bit_xor, count_ones, refl}
+use Rattle.std.proofs.Common.{sym, ap, ◌∙◌}
 use Rattle.std.proofs.Common.{arith, ⊎_elim, w64}
 use Rattle.std.specs.Int.{bit_at, trailing_zeros}
 use Rattle.std.specs.Int.Bits.{xor_self, xor_zero_r}
 use Rattle.std.specs.Int.Count.{ones_step}
 use Rattle.std.proofs.lemmas.Bool.{cases_eq, cases_lt}
 use Rattle.std.proofs.lemmas.Nat.{ones_le_self, and_le_r}
-use Rattle.std.proofs.lemmas.Nat.Bits.{bit_at-lt, bit_at-zero, bit_at-suc, bit_at_lowest, bit_at_and, bit_at_or, bit_at_xor, bit_at_above, same_from_bits, bit_at-trailing_zeros}
+use Rattle.std.proofs.lemmas.Nat.Bits.{bit_at-lt, bit_at-zero, bit_at-suc, bit_at_lowest, bit_at_and, bit_at_or, bit_at_xor, bit_at_above}
+use Rattle.std.proofs.lemmas.Nat.Bits.{same_from_bits, bit_at-trailing_zeros}
 use Rattle.std.proofs.Math.Nat.{pow-suc}
 use Rattle.bm_base.specs.Records.{SameRecords}
 use Rattle.bm_gf2.proofs.VectorLemmas.{xor_cancel_right}
-use Rattle.bm_butter.proofs.PlaceLemmas.{set_by_xor}
-use Rattle.bm_kinds.specs.Pairings.{KeepsWords, Commutes}
-use Rattle.bm_kinds.specs.OnBits.{kernel_over, set_of, AreBits}
+use Rattle.bm_butter.proofs.PairedLemmas.{set_by_xor}
+use Rattle.bm_butter.specs.Pairings.{KeepsWords, Commutes}
+use Rattle.bm_butter.specs.OnBits.{kernel_over, set_of, AreBits}
 use Rattle.bm_kinds.specs.Lowest.{TakesBits}
 use Rattle.bm_kinds.specs.Parts.{IsPart, IsDone}
-use Rattle.bm_kinds.proofs.OnBitLemmas.{flip, flip_set, flip_other}
-use Rattle.bm_kinds.proofs.OverLemmas.{kernel_over-bits, kernel_over-none, kernel_over-same, kernel_along-over, kernel_along-set, set_of-some, put_same, put_other}
+use Rattle.bm_butter.proofs.OnBitLemmas.{flip, flip_set, flip_other}
+use Rattle.bm_kinds.proofs.OverLemmas.{kernel_over-bits, kernel_over-none, kernel_over-same, kernel_along-over, kernel_along-set}
+use Rattle.bm_kinds.proofs.OverLemmas.{set_of-some, put_same, put_other}
 
 -- ---- ones
 

@@ -8,9 +8,11 @@ use Rattle.std.proofs.lemmas.Nat.{xor_comm}
 use Rattle.std.proofs.lemmas.Nat.Bits.{bit_at-lt}
 use Rattle.bm_gf2.proofs.VectorLemmas.{xor_same}
 use Rattle.bm_kinds.specs.Kinds.{WalshBits, Sums, Differences, Xors, signed, outside, inside, term}
-use Rattle.bm_kinds.proofs.OnBitLemmas.{flip}
+use Rattle.bm_butter.proofs.OnBitLemmas.{flip}
 use Rattle.bm_kinds.proofs.TotalLemmas.{signed_cancels}
-use Rattle.bm_kinds.proofs.AgreeLemmas.{Adds, differ_outside, own_bit, outside_same, outside_other, outside_same-cancels, outside_other-cancels, outside_none, inside_same, inside_other, inside_other-cancels, inside_none, sign_same, sign_other, sign_more, difference_more}
+use Rattle.bm_kinds.proofs.AgreeLemmas.{Adds, differ_outside, own_bit, outside_same, outside_other, outside_same-cancels}
+use Rattle.bm_kinds.proofs.AgreeLemmas.{outside_other-cancels, outside_none, inside_same, inside_other, inside_other-cancels, inside_none}
+use Rattle.bm_kinds.proofs.AgreeLemmas.{sign_same, sign_other, sign_more, difference_more}
 
 -- ---- one bit more, term by term
 

@@ -1,19 +1,8 @@
 -- The kinds of transform over a set of address bits, as sums over addresses. All is modulo 2 ^ 64.
 use Rattle.std.specs.Prelude.{ℕ, zero, suc, ◌+◌, ◌%◌, ◌^◌, ◌==◌, if◌then◌else◌, bit_and, bit_or, bit_xor, count_ones}
 use Rattle.bm_base.specs.Butterfly.{negative}
-
-pub data Kind : Type 0 where
-  WalshBits : Kind
-  Sums : Kind
-  Differences : Kind
-  Xors : Kind
-
--- what a kind makes of a pair of numbers
-unfoldable pub pairing : Kind → ℕ → ℕ → ℕ × ℕ
-pairing WalshBits u v = ((u + v) % 2 ^ 64, (u + negative v) % 2 ^ 64)
-pairing Sums u v = (u, (u + v) % 2 ^ 64)
-pairing Differences u v = (u, (v + negative u) % 2 ^ 64)
-pairing Xors u v = (u, bit_xor u v)
+pub use Rattle.bm_butter.specs.Kernels.{Kind, WalshBits, Sums, Differences, Xors}
+unfoldable pub use Rattle.bm_butter.specs.Kernels.{pairing}
 
 -- v, taken negative where c has an odd number of ones
 abbrev pub signed : ℕ → ℕ → ℕ

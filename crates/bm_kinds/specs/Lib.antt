@@ -1,7 +1,6 @@
-pub mod Pairings
-pub mod OnBits
+pub use Rattle.bm_butter.specs.Pairings
+pub use Rattle.bm_butter.specs.OnBits
 pub mod Kinds
-pub mod Laws
 pub mod Groups
 pub mod Lowest
 pub mod Parts

@@ -1,7 +1,7 @@
 -- Bits that are taken out of a set.
 use Rattle.std.specs.Prelude.{ℕ, ◌≡◌, ◌≢◌, ◌+◌, ◌<◌, count_ones}
 use Rattle.std.specs.Int.{bit_at}
-use Rattle.bm_kinds.specs.OnBits.{set_of}
+use Rattle.bm_butter.specs.OnBits.{set_of}
 
 -- the first `count` bits of a list are different bits of the set, and the rest has those that are not in the list
 pub record TakesBits (set count : ℕ) (bits : ℕ → ℕ) (rest : ℕ) : Type 0 where

@@ -2,7 +2,7 @@
 use Rattle.std.specs.Prelude.{ℕ, ◌^◌, ◌≤◌, List, bit_xor}
 use Rattle.std.specs.Int.{bit_at}
 use Rattle.bm_base.specs.Records.{SameRecords}
-use Rattle.bm_kinds.specs.OnBits.{kernel_over}
+use Rattle.bm_butter.specs.OnBits.{kernel_over}
 
 -- each bit of the part is in the set
 abbrev pub IsPart : ℕ → ℕ → Type 0

@@ -1,17 +1,19 @@
 //! A kernel on a set of bits of the numbers, of records at the places of an affine map.
 
-ghost use Rattle.std.specs.Prelude.{◌≡◌, ◌≢◌, ℕ, ◌+◌, ◌-◌, ◌*◌, ◌^◌, ◌<◌, ◌≤◌, List, length, count_ones};
+ghost use Rattle.std.specs.Prelude.{◌≡◌, ◌≢◌, ℕ, ◌+◌, ◌-◌, ◌*◌, ◌^◌, ◌<◌, ◌≤◌};
+ghost use Rattle.std.specs.Prelude.{List, length, count_ones};
 ghost use Rattle.bm_base.specs.Records.{SameRecords};
 ghost use Rattle.bm_base.specs.Butterfly.{butterflies};
 ghost use Rattle.bm_gf2.specs.Matrix.{IsNonsingular};
 ghost use Rattle.bm_butter.specs.Records.{record_at_place};
-ghost use Rattle.bm_kinds.specs.OnBits.{word, kernel_over};
+ghost use Rattle.bm_butter.specs.OnBits.{word, kernel_over};
 ghost use Rattle.bm_kinds.specs.Parts.{IsPart, IsDone};
 ghost use Rattle.bm_kinds.specs.Kinds.{Kind, WalshBits, pairing, transformed};
 
 use crate::few_bits::radix;
-use crate::kernels::Kernel;
+use crate::low_run::{are_lone, on_low_run};
 use crate::lowest::lowest;
+use bm_butter::Kernel;
 use bm_gf2::Matrix;
 
 // The kernel on the T lowest bits of those that are left of a set. It answers what is then left.
@@ -41,13 +43,13 @@ fn on_lowest<K: Kernel, const T: usize>(
     rest
 }
 
-// Takes as many bits as are left, and at most the first of the counts.
+// Takes as many bits as are left, and at most `$limit` and the first of the counts.
 macro_rules! by_count {
     (
-        $kernel:expr, $buf:expr, $a:expr, $plus:expr, $left:expr;
+        $kernel:expr, $buf:expr, $a:expr, $plus:expr, $left:expr, $limit:expr;
         $most:literal $($fewer:literal)* or $least:literal
     ) => {
-        match $left.count_ones().min($most) {
+        match $left.count_ones().min($limit).min($most) {
             $most => on_lowest::<K, $most>($kernel, $buf, $a, $plus, $left),
             $($fewer => on_lowest::<K, $fewer>($kernel, $buf, $a, $plus, $left),)*
             _ => on_lowest::<K, $least>($kernel, $buf, $a, $plus, $left),
@@ -55,8 +57,16 @@ macro_rules! by_count {
     };
 }
 
-// The kernel on up to three of the bits that are left. It answers what is then left.
-fn on_some<K: Kernel>(kernel: &K, buf: &mut [u8], a: &Matrix, plus: u64, left: u64) -> u64
+// The kernel on up to three of the bits that are left, and at most so many. It answers what is then
+// left.
+fn on_some<K: Kernel>(
+    kernel: &K,
+    buf: &mut [u8],
+    a: &Matrix,
+    plus: u64,
+    left: u64,
+    limit: u32,
+) -> u64
     requires some { left ≢ 0 }
     requires nonsingular { IsNonsingular a.now }
     requires plus { plus < 2 ^ a.now.n }
@@ -70,7 +80,7 @@ fn on_some<K: Kernel>(kernel: &K, buf: &mut [u8], a: &Matrix, plus: u64, left: u
         → IsDone (K.meaning kernel.now) a.now.n set result xs
         (record_at_place a.now plus buf.new) }
 {
-    by_count!(kernel, buf, a, plus, left; 3 2 or 1)
+    by_count!(kernel, buf, a, plus, left, limit; 3 2 or 1)
 }
 
 /// The kernel on each bit of a set, in ascending order, of records of which number i stands at the
@@ -79,6 +89,10 @@ fn on_some<K: Kernel>(kernel: &K, buf: &mut [u8], a: &Matrix, plus: u64, left: u
 /// The places stay as they are: afterwards number i stands there again. For each of the four
 /// kernels this is its kind of transform over the set, and for `Signs` over the lowest bits the
 /// butterflies on them.
+///
+/// The lowest bits, as far as the set has them all, are taken as the butterflies take them. Of the
+/// others two are taken at a time where they are bits of the places, since two fill a sweep over
+/// the buffer, and else three.
 pub fn kernel_at<K: Kernel>(kernel: &K, buf: &mut [u8], a: &Matrix, plus: u64, set: u64)
     requires nonsingular { IsNonsingular a.now }
     requires plus { plus < 2 ^ a.now.n }
@@ -94,8 +108,9 @@ pub fn kernel_at<K: Kernel>(kernel: &K, buf: &mut [u8], a: &Matrix, plus: u64, s
         → SameRecords (2 ^ a.now.n) (record_at_place a.now plus buf.new)
         (butterflies low (record_at_place a.now plus buf.old)) }
 {
-    let mut left = set;
+    let mut left = on_low_run(kernel, buf, a, plus, set);
+    let limit = if are_lone(a, left) { 2 } else { 3 };
     while left != 0 {
-        left = on_some(kernel, buf, a, plus, left);
+        left = on_some(kernel, buf, a, plus, left, limit);
     }
 }

@@ -5,11 +5,11 @@ ghost use Rattle.bm_base.specs.Records.{SameRecords};
 ghost use Rattle.bm_gf2.specs.Matrix.{IsNonsingular, image};
 ghost use Rattle.bm_gf2.specs.Vector.{xor_sum};
 ghost use Rattle.bm_butter.specs.Records.{record_at_place};
-ghost use Rattle.bm_kinds.specs.OnBits.{kernel_over, set_of, AreBits};
+ghost use Rattle.bm_butter.specs.OnBits.{kernel_over, set_of, AreBits};
 ghost use Rattle.bm_kinds.specs.Groups.{member};
 
 use crate::group::{Group, transform_group, zeros};
-use crate::kernels::Kernel;
+use bm_butter::{Kernel, one_at, two_at};
 use bm_gf2::{Matrix, Stepper};
 
 // The set of the bits.
@@ -53,6 +53,37 @@ fn offsets_of<const T: usize>(a: &Matrix, bits: &[u8; T]) -> Group
     offsets
 }
 
+// The kernel on each of T bits of the numbers, group by group: the numbers without the bits are
+// those of a walk over all.
+fn by_numbers<K: Kernel, const T: usize>(
+    kernel: &K,
+    buf: &mut [u8],
+    a: &Matrix,
+    plus: u64,
+    bits: [u8; T],
+)
+    requires some { 1 ≤ T }
+    requires few { T ≤ 3 }
+    requires nonsingular { IsNonsingular a.now }
+    requires plus { plus < 2 ^ a.now.n }
+    requires whole { length buf.old ≡ 8 * 2 ^ a.now.n }
+    requires bits { AreBits a.now.n T (slice_index bits) }
+    ensures size { length buf.new ≡ length buf.old }
+    ensures records { SameRecords (2 ^ a.now.n) (record_at_place a.now plus buf.new)
+        (kernel_over (K.meaning kernel.now) a.now.n (set_of (slice_index bits.entry) T)
+        (record_at_place a.now plus buf.old)) }
+{
+    let set = set_of_bits(&bits);
+    let offsets = offsets_of(a, &bits);
+    let mut stepper = Stepper::start(a, plus, 0);
+    for number in 0..1u64 << a.n {
+        if number & set == 0 {
+            transform_group::<K, T>(kernel, buf, stepper.here(), &offsets);
+        }
+        stepper.step();
+    }
+}
+
 /// The kernel on each of T bits of the numbers, in ascending order, of records of which number i
 /// stands at the place `a i XOR plus`, in one pass over them.
 ///
@@ -78,13 +109,20 @@ pub fn radix<K: Kernel, const T: usize>(
     if T == 0 {
         return;
     }
-    let set = set_of_bits(&bits);
-    let offsets = offsets_of(a, &bits);
-    let mut stepper = Stepper::start(a, plus, 0);
-    for number in 0..1u64 << a.n {
-        if number & set == 0 {
-            transform_group::<K, T>(kernel, buf, stepper.here(), &offsets);
-        }
-        stepper.step();
+    if T == 1 {
+        one_at(kernel, buf, a, plus, bits[0]);
+        return;
     }
+    if T == 2 {
+        two_at(
+            kernel,
+            buf,
+            a,
+            plus,
+            bits[0].min(bits[1]),
+            bits[0].max(bits[1]),
+        );
+        return;
+    }
+    by_numbers(kernel, buf, a, plus, bits);
 }

@@ -1,13 +1,13 @@
 //! A group of numbers that a few bits tell apart, taken through the kernel on each of those bits.
 
-ghost use Rattle.std.specs.Prelude.{◌≡◌, ◌≢◌, ℕ, ◌+◌, ◌*◌, ◌^◌, ◌<◌, ◌≤◌, length, slice_index, bit_xor};
-ghost use Rattle.bm_base.specs.Butterfly.{number_in, record_of};
+ghost use Rattle.std.specs.Prelude.{◌≡◌, ◌≢◌, ℕ, ◌+◌, ◌*◌, ◌^◌, ◌<◌, ◌≤◌};
+ghost use Rattle.std.specs.Prelude.{length, slice_index, bit_xor};
+ghost use Rattle.bm_base.specs.Butterfly.{record_of};
 ghost use Rattle.bm_butter.specs.Records.{record_in_order};
-ghost use Rattle.bm_kinds.specs.OnBits.{kernel_on, kernel_digits};
+ghost use Rattle.bm_butter.specs.OnBits.{word, kernel_on, kernel_digits};
 ghost use Rattle.bm_kinds.specs.Groups.{corner, AreInside, AreApart};
 
-use crate::kernels::Kernel;
-use crate::numbers::{number_at, set_number};
+use bm_butter::{Kernel, number_at, set_number};
 
 // The numbers of the largest group, which has three bits.
 const GROUP: usize = 8;
@@ -27,7 +27,7 @@ fn gather<const T: usize>(buf: &[u8], here: u64, offsets: &Group) -> Group
     requires few { T ≤ 3 }
     requires inside { AreInside (2 ^ T) (corner here (slice_index offsets.now)) (length buf.now) }
     ensures numbers { (t : ℕ) → t < 2 ^ T → slice_index result t
-        ≡ number_in (record_in_order buf.now (corner here (slice_index offsets.now) t)) }
+        ≡ word (record_in_order buf.now (corner here (slice_index offsets.now) t)) }
 {
     let mut numbers = zeros();
     for t in 0..1usize << T {

@@ -5,10 +5,9 @@
 mod at_places;
 mod few_bits;
 mod group;
-mod kernels;
+mod low_run;
 mod lowest;
-mod numbers;
 
 pub use at_places::kernel_at;
+pub use bm_butter::{Differences, Kernel, Signs, Sums, Xors};
 pub use few_bits::radix;
-pub use kernels::{Differences, Kernel, Signs, Sums, Xors};

@@ -1,7 +1,7 @@
 //! The lowest bits of a set.
 
 ghost use Rattle.std.specs.Prelude.{◌≡◌, ℕ, ◌+◌, ◌^◌, ◌<◌, ◌≤◌, slice_index, count_ones, bit_or};
-ghost use Rattle.bm_kinds.specs.OnBits.{set_of, AreBits};
+ghost use Rattle.bm_butter.specs.OnBits.{set_of, AreBits};
 ghost use Rattle.bm_kinds.specs.Lowest.{TakesBits};
 
 /// The T lowest bits of a set of at least so many, in ascending order, and the set without them.

@@ -1,5 +1,5 @@
 //! The program that shows how fast records move in memory: through the placing of rows, in one step
-//! and in two, through butterflies, and through a pass over disks in memory.
+//! and in two, through butterflies and other kernels, and through a pass over disks in memory.
 //!
 //! With no words it moves a little, and prints a checksum for each move. With the word `measure`
 //! it moves 16 and 64 MiB, and adds the nanoseconds of processor time.
@@ -9,6 +9,7 @@
 mod checksum;
 mod copied;
 mod map_name;
+mod mixed;
 mod passed;
 mod pattern;
 mod placed;
@@ -21,8 +22,10 @@ mod two_steps;
 
 ghost use Rattle.std.specs.Prelude.{◌<◌, ◌≤◌};
 
+use bm_kinds::{Differences, Sums};
 use copied::copy_rows;
 use map_name::MapName;
+use mixed::{ALL, EVEN, mix};
 use passed::pass;
 use placed::place;
 use sizes::Sizes;
@@ -70,11 +73,19 @@ fn place_plans(rt: &HostRuntime, sizes: Sizes) -> io::Result<()> {
     place_plan(rt, sizes, MapName::Morton)
 }
 
+// Transforms loads at the places of a map by butterflies, and takes them through two other kernels.
+fn transform_kinds(rt: &HostRuntime, sizes: Sizes, name: MapName) -> io::Result<()> {
+    transform(rt, sizes, name)?;
+    mix(rt, sizes, name, "sums", &Sums, ALL)?;
+    mix(rt, sizes, name, "differences", &Differences, ALL)?;
+    mix(rt, sizes, name, "even-sums", &Sums, EVEN)
+}
+
 // Transforms loads at the places of three maps.
 fn transform_all(rt: &HostRuntime, sizes: Sizes) -> io::Result<()> {
-    transform(rt, sizes, MapName::Identity)?;
-    transform(rt, sizes, MapName::Gray)?;
-    transform(rt, sizes, MapName::BitReversal)
+    transform_kinds(rt, sizes, MapName::Identity)?;
+    transform_kinds(rt, sizes, MapName::Gray)?;
+    transform_kinds(rt, sizes, MapName::BitReversal)
 }
 
 // Does passes over loads of records of 8 and 64 bytes.

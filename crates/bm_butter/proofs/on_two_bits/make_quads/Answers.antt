@@ -6,7 +6,7 @@ use Rattle.bm_butter.proofs.on_two_bits.make_quads.Goals as goal
 
 pub loop-k-preserved : goal.loop-k-preserved
 unfolding pick
-loop-k-preserved c =
+loop-k-preserved g c =
     let inv = c.loop-k.invariant in
     let test = c.loop-k-test.true in
     let p = c.args.p in
@@ -19,8 +19,10 @@ loop-k-preserved c =
     let new = c.quad.new.buf in
     record {
       size = c.quad.ensures.size ∙ inv.size;
-      done = GroupsDone-more (run_place p q r s) c.args.count 0 k old now new c.requires.told (omega arith) (omega arith) inv.done
-          (IsGroup-same (pick (p + k) (q + k) (r + k) (s + k)) (run_place p q r s k) now new (λ t below. pick-more k p q r s t)
+      done = GroupsDone-more (g.K.Kernel.meaning c.args.kernel.now) (run_place p q r s) c.args.count 0 k old now new c.requires.told
+          (omega arith) (omega arith) inv.done
+          (IsGroup-same (g.K.Kernel.meaning c.args.kernel.now) (pick (p + k) (q + k) (r + k) (s + k)) (run_place p q r s k) now new
+          (λ t below. pick-more k p q r s t)
           c.quad.ensures.group)
           (λ x out. c.quad.ensures.others x (out 0 (omega arith)) (out 1 (omega arith)) (out 2 (omega arith)) (out 3 (omega arith)));
     }

@@ -1,17 +1,16 @@
-use Rattle.std.proofs.Common.{List, ℕ, refl, ap, ◌∙◌, arith}
+use Rattle.std.proofs.Common.{List, ℕ, ap, ◌∙◌, arith}
 use Rattle.bm_butter.specs.Records.{record_at_place}
-use Rattle.bm_kinds.specs.OnBits.{word, kernel_over}
-use Rattle.bm_kinds.proofs.SetLemmas.{IsPart-all, IsPart-below, IsDone-none, IsDone-all}
+use Rattle.bm_butter.specs.OnBits.{word, kernel_over}
+use Rattle.bm_kinds.proofs.SetLemmas.{IsPart-below, IsDone-all}
 use Rattle.bm_kinds.proofs.KindLemmas.{kernel_over-kind}
-use Rattle.bm_kinds.proofs.SignLemmas.{kernel_over-signs}
+use Rattle.bm_kinds.proofs.LowRunLemmas.{kernel_over-signs}
 use Rattle.bm_kinds.proofs.at_places.kernel_at.Goals as goal
 
 pub loop-left-init : goal.loop-left-init
 loop-left-init g c = record {
-  size = refl;
-  part = IsPart-all c.args.set;
-  done = IsDone-none (g.K.Kernel.meaning c.args.kernel.now) c.args.a.now.n c.args.set
-      (record_at_place c.args.a.now c.args.plus c.args.buf.now);
+  size = c.on_low_run-left.ensures.size;
+  part = c.on_low_run-left.ensures.part;
+  done = c.on_low_run-left.ensures.done;
 }
 
 pub on_some-left-requires-clause-left : goal.on_some-left-requires-clause-left

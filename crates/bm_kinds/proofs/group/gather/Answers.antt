@@ -1,6 +1,6 @@
 use Rattle.std.proofs.Common.{◌≡◌, length-set, slice_index, ◌∙◌, arith}
 use Rattle.std.proofs.lemmas.Nat.{one_shl}
-use Rattle.bm_base.specs.Butterfly.{number_in}
+use Rattle.bm_butter.specs.OnBits.{word}
 use Rattle.bm_butter.specs.Records.{record_in_order}
 use Rattle.bm_kinds.specs.Groups.{corner}
 use Rattle.bm_kinds.proofs.GroupLemmas.{written_more, few_numbers}
@@ -30,7 +30,7 @@ loop-t-preserved g c =
     let place = corner c.args.here (slice_index c.args.offsets.now) in
     record {
       long = length-set c.loop-t.numbers _ _ ∙ inv.long;
-      numbers = written_more c.loop-t.numbers c.loop-t.t c.number_at.result (λ s v. v ≡ number_in (record_in_order c.args.buf.now
+      numbers = written_more c.loop-t.numbers c.loop-t.t c.number_at.result (λ s v. v ≡ word (record_in_order c.args.buf.now
           (place s)))
           (omega (arith, inv.end, inv.long, few_numbers g.row.T c.requires.few)) inv.numbers c.number_at.ensures;
       end = inv.end;

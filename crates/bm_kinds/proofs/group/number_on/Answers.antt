@@ -1,6 +1,6 @@
 use Rattle.std.proofs.Common.{rules, ◌*◌, ◌%◌, ◌^◌, bit_xor, slice_index, Fits, w64, sym, ◌∙◌, arith}
 use Rattle.std.proofs.lemmas.Nat.Bits.{shr_and_one}
-use Rattle.bm_kinds.proofs.OnBitLemmas.{number_pair-clear, number_pair-set, flip_short}
+use Rattle.bm_butter.proofs.OnBitLemmas.{number_pair-clear, number_pair-set, flip_short}
 use Rattle.bm_kinds.proofs.group.number_on.Goals as goal
 
 pub offset_bounds-from-t-2 : goal.offset_bounds-from-t-2

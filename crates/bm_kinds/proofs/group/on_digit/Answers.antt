@@ -1,7 +1,7 @@
 use Rattle.std.proofs.Common.{◌≡◌, length-set, slice_index, ◌∙◌, arith}
 use Rattle.std.proofs.lemmas.Nat.{one_shl}
 use Rattle.bm_base.specs.Butterfly.{record_of}
-use Rattle.bm_kinds.specs.OnBits.{kernel_on}
+use Rattle.bm_butter.specs.OnBits.{kernel_on}
 use Rattle.bm_kinds.proofs.GroupLemmas.{written_more, few_numbers}
 use Rattle.bm_kinds.proofs.group.on_digit.Goals as goal
 

@@ -1,6 +1,6 @@
 use Rattle.std.proofs.Common.{◌^◌, ◌≡◌, ℕ, ◌<◌, length, slice_index}
 use Rattle.bm_base.specs.Butterfly.{record_of}
-use Rattle.bm_kinds.specs.OnBits.{kernel_on}
+use Rattle.bm_butter.specs.OnBits.{kernel_on}
 use Rattle.bm_kinds.proofs.group.on_digit.Given as goal
 
 abbrev pub invariant-loop-t : goal.invariant-loop-t

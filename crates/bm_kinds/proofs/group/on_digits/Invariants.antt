@@ -1,6 +1,6 @@
 use Rattle.std.proofs.Common.{◌≡◌, ℕ, ◌^◌, ◌<◌, slice_index}
 use Rattle.bm_base.specs.Butterfly.{record_of}
-use Rattle.bm_kinds.specs.OnBits.{kernel_digits}
+use Rattle.bm_butter.specs.OnBits.{kernel_digits}
 use Rattle.bm_kinds.proofs.group.on_digits.Given as goal
 
 abbrev pub invariant-loop-j : goal.invariant-loop-j

@@ -3,7 +3,7 @@ use Rattle.bm_base.specs.Butterfly.{record_of}
 use Rattle.bm_butter.specs.Records.{record_in_order}
 use Rattle.bm_kinds.specs.Groups.{corner}
 use Rattle.bm_kinds.proofs.OverLemmas.{kernel_digits-words}
-use Rattle.bm_kinds.proofs.OnBitLemmas.{word_again}
+use Rattle.bm_butter.proofs.OnBitLemmas.{word_again}
 use Rattle.bm_kinds.proofs.group.transform_group.Goals as goal
 
 pub returns-clause-done : goal.returns-clause-done

@@ -5,26 +5,26 @@ use Rattle.bm_butter.proofs.on_two_bits.Corners.of.Goals as goal
 
 pub overflow_add-result : goal.overflow_add-result
 overflow_add-result c =
-    let inner = half_fits c.args.inner.bit c.args.inner.sum c.args.inner.difference c.args.inner.few c.args.inner.halves in
-    let outer = half_fits c.args.outer.bit c.args.outer.sum c.args.outer.difference c.args.outer.few c.args.outer.halves in
+    let inner = half_fits c.args.inner.bit c.args.inner.at_u c.args.inner.at_v c.args.inner.few c.args.inner.halves in
+    let outer = half_fits c.args.outer.bit c.args.outer.at_u c.args.outer.at_v c.args.outer.few c.args.outer.halves in
     omega (arith, inner.0, inner.1, outer.0, outer.1)
 
 pub overflow_add-result-2 : goal.overflow_add-result-2
 overflow_add-result-2 c =
-    let inner = half_fits c.args.inner.bit c.args.inner.sum c.args.inner.difference c.args.inner.few c.args.inner.halves in
-    let outer = half_fits c.args.outer.bit c.args.outer.sum c.args.outer.difference c.args.outer.few c.args.outer.halves in
+    let inner = half_fits c.args.inner.bit c.args.inner.at_u c.args.inner.at_v c.args.inner.few c.args.inner.halves in
+    let outer = half_fits c.args.outer.bit c.args.outer.at_u c.args.outer.at_v c.args.outer.few c.args.outer.halves in
     omega (arith, inner.0, inner.1, outer.0, outer.1)
 
 pub overflow_add-result-3 : goal.overflow_add-result-3
 overflow_add-result-3 c =
-    let inner = half_fits c.args.inner.bit c.args.inner.sum c.args.inner.difference c.args.inner.few c.args.inner.halves in
-    let outer = half_fits c.args.outer.bit c.args.outer.sum c.args.outer.difference c.args.outer.few c.args.outer.halves in
+    let inner = half_fits c.args.inner.bit c.args.inner.at_u c.args.inner.at_v c.args.inner.few c.args.inner.halves in
+    let outer = half_fits c.args.outer.bit c.args.outer.at_u c.args.outer.at_v c.args.outer.few c.args.outer.halves in
     omega (arith, inner.0, inner.1, outer.0, outer.1)
 
 pub overflow_add-result-4 : goal.overflow_add-result-4
 overflow_add-result-4 c =
-    let inner = half_fits c.args.inner.bit c.args.inner.sum c.args.inner.difference c.args.inner.few c.args.inner.halves in
-    let outer = half_fits c.args.outer.bit c.args.outer.sum c.args.outer.difference c.args.outer.few c.args.outer.halves in
+    let inner = half_fits c.args.inner.bit c.args.inner.at_u c.args.inner.at_v c.args.inner.few c.args.inner.halves in
+    let outer = half_fits c.args.outer.bit c.args.outer.at_u c.args.outer.at_v c.args.outer.few c.args.outer.halves in
     omega (arith, inner.0, inner.1, outer.0, outer.1)
 
 pub invariant_of-result : goal.invariant_of-result
@@ -37,9 +37,9 @@ invariant_of-result c =
     record {
       order = order;
       few = few;
-      corners = subst (λ low. AreCorners low c.max.result (inner.sum + outer.sum) (inner.difference + outer.sum)
-          (inner.sum + outer.difference) (inner.difference + outer.difference)) (sym c.min.ensures)
-          (subst (λ high. AreCorners (min inner.bit outer.bit) high (inner.sum + outer.sum) (inner.difference + outer.sum)
-          (inner.sum + outer.difference) (inner.difference + outer.difference)) (sym c.max.ensures)
-          (AreCorners-halves inner.bit outer.bit inner.sum inner.difference outer.sum outer.difference differ inner.halves outer.halves));
+      corners = subst (λ low. AreCorners low c.max.result (inner.at_u + outer.at_u) (inner.at_v + outer.at_u)
+          (inner.at_u + outer.at_v) (inner.at_v + outer.at_v)) (sym c.min.ensures)
+          (subst (λ high. AreCorners (min inner.bit outer.bit) high (inner.at_u + outer.at_u) (inner.at_v + outer.at_u)
+          (inner.at_u + outer.at_v) (inner.at_v + outer.at_v)) (sym c.max.ensures)
+          (AreCorners-halves inner.bit outer.bit inner.at_u inner.at_v outer.at_u outer.at_v differ inner.halves outer.halves));
     }

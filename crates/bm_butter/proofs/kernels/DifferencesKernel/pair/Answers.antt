@@ -1,0 +1,8 @@
+use Rattle.std.proofs.Common.{refl, arith}
+use Rattle.bm_butter.specs.Kernels.{pairing}
+use Rattle.bm_butter.proofs.OnBitLemmas.{same_two}
+use Rattle.bm_butter.proofs.kernels.DifferencesKernel.pair.Goals as goal
+
+pub returns : goal.returns
+unfolding pairing
+returns c = same_two refl (omega (arith, c.ranges.u.fits))

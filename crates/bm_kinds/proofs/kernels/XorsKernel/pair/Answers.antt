@@ -1,8 +1,0 @@
-use Rattle.std.proofs.Common.{refl}
-use Rattle.bm_kinds.specs.Kinds.{pairing}
-use Rattle.bm_kinds.proofs.OnBitLemmas.{same_two}
-use Rattle.bm_kinds.proofs.kernels.XorsKernel.pair.Goals as goal
-
-pub returns : goal.returns
-unfolding pairing
-returns c = same_two refl refl
