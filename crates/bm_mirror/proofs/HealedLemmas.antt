@@ -1,6 +1,6 @@
 -- A mirror after a heal.
-use Rattle.std.proofs.Common.{◌≡◌, ◌⊎◌, inl, inr, ⊎_elim, ◌&&◌, ℕ, Bool, false, IsTrue, IsFalse, Option, Some, None, Result, Ok, Err, IsOk}
-use Rattle.std.proofs.Common.{sym, ◌∙◌, ap, refl, subst}
+use Rattle.std.proofs.Common.{◌≡◌, ◌⊎◌, inl, inr, ⊎_elim, ◌&&◌, ℕ, Bool, false, IsTrue, IsFalse, List, Option, Some, None}
+use Rattle.std.proofs.Common.{Result, Ok, Err, IsOk, sym, ◌∙◌, ap, refl, subst}
 use Rattle.std.proofs.lemmas.Bool.{cases_Bool, and_from}
 use Rattle.bm_base.specs.declared.dims.Dims.{Dims}
 use Rattle.bm_rack.specs.RackView.{RackView, IsWellFormed, IsClean}
@@ -18,11 +18,11 @@ use Rattle.bm_mirror.proofs.SideLemmas.{both_ways, all_stands, left_stands, righ
 apart_is_not : ◌≡◌ {A = Result Healed HealError} (Ok Apart) (Ok Level) → ⊥
 apart_is_not e = cc
 
-error_is_not : (error : HealError) → ◌≡◌ {A = Result Healed HealError} (Err error) (Ok Level) → ⊥
+pub error_is_not : (error : HealError) → ◌≡◌ {A = Result Healed HealError} (Err error) (Ok Level) → ⊥
 error_is_not error e = cc
 
 -- an answer is level, or it is not
-is_level : (r : Result Healed HealError) → (r ≡ Ok Level) ⊎ (¬ (r ≡ Ok Level))
+pub is_level : (r : Result Healed HealError) → (r ≡ Ok Level) ⊎ (¬ (r ≡ Ok Level))
 is_level (Ok Level) = inl refl
 is_level (Ok Apart) = inr apart_is_not
 is_level (Err error) = inr (error_is_not error)
@@ -67,9 +67,10 @@ record IsSyncedAtMost (old new : RackView) : Type 0 where
   contents : new.contents ≡ old.contents
   dirty : (new.dirty ≡ old.dirty) ⊎ IsClean new
 
-shown_synced_at_most : (ts tc : Bool) (a : Option Dims) (f f' m p s : ℕ) (v w : RackView) → IsSyncedAtMost v w
-    → ShowsTheSame (shown ts tc v a f m p s) (shown ts tc w a f' m p s)
-shown_synced_at_most ts tc a f f' m p s v w x = record {
+shown_synced_at_most : (ts tc : Bool) (a : Option Dims) (f f' m p s : ℕ) (facts facts' : List ℕ → Bool) (v w : RackView)
+    → IsSyncedAtMost v w
+    → ShowsTheSame (shown ts tc v a f m p s facts) (shown ts tc w a f' m p s facts')
+shown_synced_at_most ts tc a f f' m p s facts facts' v w x = record {
   stands = told_same ts w.stands v.stands None (λ _. x.stands);
   contents = told_same tc w.contents v.contents untold_contents (λ _. x.contents);
   dirty = ⊎_elim (λ same. inl (told_same tc w.dirty v.dirty (λ u. false) (λ _. same)))
@@ -182,35 +183,38 @@ module _ (ls lc gs gc : Bool) (dims : Dims) (r : Result Healed HealError) (old n
     | inr out ↦ by_from r old.left new.left (x.from_left out)
   ]
 
-  pub healed_shows : (f f' m p s : ℕ) → ShowsTheSame (shown (ls && gs) (tells_all ls gs lc gc) (preferred old) a f m p s)
-      (shown (ls && gs) (tells_all ls gs lc gc) (preferred new) a f' m p s)
-  healed_shows f f' m p s =
+  pub healed_shows : (f f' m p s : ℕ) (facts facts' : List ℕ → Bool)
+      → ShowsTheSame (shown (ls && gs) (tells_all ls gs lc gc) (preferred old) a f m p s facts)
+      (shown (ls && gs) (tells_all ls gs lc gc) (preferred new) a f' m p s facts')
+  healed_shows f f' m p s facts facts' =
       let ts = ls && gs in
       let tc = tells_all ls gs lc gc in
       elim (cases_Bool old.sides.left) [
         | inl was ↦
-            subst (λ v. ShowsTheSame v (shown ts tc (preferred new) a f' m p s)) (sym (shown_left ts tc old a f m p s was))
-            (subst (λ w. ShowsTheSame (shown ts tc old.left a f m p s) w) (sym (shown_left ts tc new a f' m p s (left_stays was)))
-            (shown_synced_at_most ts tc a f f' m p s old.left new.left (left_synced was)))
+            subst (λ v. ShowsTheSame v (shown ts tc (preferred new) a f' m p s facts')) (sym (shown_left ts tc old a f m p s facts was))
+            (subst (λ w. ShowsTheSame (shown ts tc old.left a f m p s facts) w)
+            (sym (shown_left ts tc new a f' m p s facts' (left_stays was)))
+            (shown_synced_at_most ts tc a f f' m p s facts facts' old.left new.left (left_synced was)))
         | inr out ↦
             let was = k.some_in out in
-            subst (λ v. ShowsTheSame v (shown ts tc (preferred new) a f' m p s)) (sym (shown_right ts tc old a f m p s k.level was))
-            (subst (λ w. ShowsTheSame (shown ts tc old.right a f m p s) w)
-            (sym (shown_right ts tc new a f' m p s level_after (right_stays was)))
-            (shown_synced_at_most ts tc a f f' m p s old.right new.right (by_from r old.right new.right (x.from_right out))))
+            subst (λ v. ShowsTheSame v (shown ts tc (preferred new) a f' m p s facts'))
+            (sym (shown_right ts tc old a f m p s facts k.level was))
+            (subst (λ w. ShowsTheSame (shown ts tc old.right a f m p s facts) w)
+            (sym (shown_right ts tc new a f' m p s facts' level_after (right_stays was)))
+            (shown_synced_at_most ts tc a f f' m p s facts facts' old.right new.right (by_from r old.right new.right (x.from_right out))))
       ]
 
-  pub healed_clean : (f m p s : ℕ) → (¬ (IsTrue old.sides.left × IsTrue old.sides.right)) → IsOk r
-      → IsClean (shown (ls && gs) (tells_all ls gs lc gc) (preferred new) a f m p s)
-  healed_clean f m p s apart ok =
+  pub healed_clean : (f m p s : ℕ) (facts : List ℕ → Bool) → (¬ (IsTrue old.sides.left × IsTrue old.sides.right)) → IsOk r
+      → IsClean (shown (ls && gs) (tells_all ls gs lc gc) (preferred new) a f m p s facts)
+  healed_clean f m p s facts apart ok =
       let ts = ls && gs in
       let tc = tells_all ls gs lc gc in
       elim (cases_Bool old.sides.left) [
         | inl was ↦
             let out : IsFalse old.sides.right = ⊎_elim (λ too. absurd (apart (was, too))) (λ out. out) (cases_Bool old.sides.right) in
-            subst IsClean (sym (shown_left ts tc new a f m p s (left_stays was)))
+            subst IsClean (sym (shown_left ts tc new a f m p s facts (left_stays was)))
             (λ u. told_clean tc new.left.dirty u ((x.from_left out).clean ok u))
         | inr out ↦
-            subst IsClean (sym (shown_right ts tc new a f m p s level_after (right_stays (k.some_in out))))
+            subst IsClean (sym (shown_right ts tc new a f m p s facts level_after (right_stays (k.some_in out))))
             (λ u. told_clean tc new.right.dirty u ((x.from_right out).clean ok u))
       ]

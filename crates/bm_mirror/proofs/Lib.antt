@@ -5,3 +5,9 @@ pub mod ReadLemmas
 pub mod CreateLemmas
 pub mod HealLemmas
 pub mod HealedLemmas
+pub mod LastingLemmas
+pub mod KeepingLemmas
+pub mod AttachingLemmas
+pub mod CreateKeepsLemmas
+pub mod HealKeepsLemmas
+pub mod SinceLemmas

@@ -30,22 +30,24 @@ module _ {T : Type 0} (old : TwoSides) (x y r : Result T Failed) (asked : Bool) 
   asked_in holds = (and_parts old.sides.right (is_err x) (sym is ∙ holds)).0
 
   -- what was read is what the mirror holds
-  module _ (ts tc lc gc : Bool) (a : Option Dims) (f m p s : ℕ) (lt : IsTrue tc → IsTrue lc) (gt : IsTrue tc → IsTrue gc)
-      (k : IsMirror ts tc old a) (left_in : IsOk x → IsTrue old.sides.left) (right_asked : IsOk y → IsTrue asked)
+  module _ (ts tc lc gc : Bool) (a : Option Dims) (f m p s : ℕ) (facts : List ℕ → Bool)
+      (lt : IsTrue tc → IsTrue lc) (gt : IsTrue tc → IsTrue gc) (k : IsMirror ts tc old a)
+      (left_in : IsOk x → IsTrue old.sides.left) (right_asked : IsOk y → IsTrue asked)
       (good : IsOk x → r ≡ x) (other : IsErr x → r ≡ y) where
     -- what the mirror holds, which each side holds that is in
     held : Contents
-    held = (shown ts tc (preferred old) a f m p s).contents
+    held = (shown ts tc (preferred old) a f m p s facts).contents
 
     from_left : IsTrue tc → IsTrue old.sides.left → old.left.contents ≡ held
     unfolding held
     from_left told holds =
-        sym (ap (λ v. v.contents) (shown_left ts tc old a f m p s holds) ∙ told_is tc old.left.contents untold_contents told)
+        sym (ap (λ v. v.contents) (shown_left ts tc old a f m p s facts holds) ∙ told_is tc old.left.contents untold_contents told)
 
     from_right : IsTrue tc → IsTrue old.sides.right → old.right.contents ≡ held
     unfolding held
     from_right told holds =
-        sym (ap (λ v. v.contents) (shown_right ts tc old a f m p s k.level holds) ∙ told_is tc old.right.contents untold_contents told)
+        sym (ap (λ v. v.contents) (shown_right ts tc old a f m p s facts k.level holds)
+        ∙ told_is tc old.right.contents untold_contents told)
 
     -- by one read after the other
     pub row_read : (dims : Dims) (places : List (Option ℕ)) (first second third : List ℕ)
@@ -53,7 +55,7 @@ module _ {T : Type 0} (old : TwoSides) (x y r : Result T Failed) (asked : Bool) 
         → (IsFalse old.sides.left → second ≡ first)
         → (IsTrue asked → RowRead gc dims old.right.contents places y second third)
         → (IsFalse asked → third ≡ second)
-        → RowRead tc dims (shown ts tc (preferred old) a f m p s).contents places r first third
+        → RowRead tc dims (shown ts tc (preferred old) a f m p s facts).contents places r first third
     unfolding held
     row_read dims places first second third left left_rests right right_rests = record {
       taking = λ told ok disk place on at. elim (ok_or_err x) [

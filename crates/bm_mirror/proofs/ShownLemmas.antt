@@ -32,9 +32,9 @@ pub told_clean : (told : Bool) (d : RackUnit → Bool) (u : RackUnit) → d u �
 told_clean true d u clean = clean
 told_clean false d u clean = refl
 
-module _ (ts tc : Bool) (a a' : Option Dims) (f m p s f' m' p' s' : ℕ) (v w : RackView) where
+module _ (ts tc : Bool) (a a' : Option Dims) (f m p s f' m' p' s' : ℕ) (facts facts' : List ℕ → Bool) (v w : RackView) where
   pub shown_changes : (P : RackUnit → Type 0) → a' ≡ a → ChangesOnly P v w
-      → ChangesOnly P (shown ts tc v a f m p s) (shown ts tc w a' f' m' p' s')
+      → ChangesOnly P (shown ts tc v a f m p s facts) (shown ts tc w a' f' m' p' s' facts')
   shown_changes P same x = record {
     stands = told_same ts w.stands v.stands None (λ _. x.stands);
     attached = same;
@@ -44,7 +44,7 @@ module _ (ts tc : Bool) (a a' : Option Dims) (f m p s f' m' p' s' : ℕ) (v w : 
 
   pub shown_row_written : {T : Type 0} (rc : Bool) (dims : Dims) (places : List (Option ℕ)) (bytes : List ℕ) (r : Result T Failed)
       → (IsTrue tc → IsTrue rc) → a' ≡ a → RowWritten rc dims v places bytes r w
-      → RowWritten tc dims (shown ts tc v a f m p s) places bytes r (shown ts tc w a' f' m' p' s')
+      → RowWritten tc dims (shown ts tc v a f m p s facts) places bytes r (shown ts tc w a' f' m' p' s' facts')
   shown_row_written rc dims places bytes r tells same x = record {
     only = shown_changes (InRow places) same x.only;
     taking = λ told ok disk place below is.
@@ -55,7 +55,7 @@ module _ (ts tc : Bool) (a a' : Option Dims) (f m p s f' m' p' s' : ℕ) (v w : 
   }
 
   pub shown_synced : {T : Type 0} (r : Result T Failed) → a' ≡ a → Synced v r w
-      → Synced (shown ts tc v a f m p s) r (shown ts tc w a' f' m' p' s')
+      → Synced (shown ts tc v a f m p s facts) r (shown ts tc w a' f' m' p' s' facts')
   shown_synced r same x = record {
     stands = told_same ts w.stands v.stands None (λ _. x.stands);
     contents = told_same tc w.contents v.contents untold_contents (λ _. x.contents);
@@ -65,9 +65,9 @@ module _ (ts tc : Bool) (a a' : Option Dims) (f m p s f' m' p' s' : ℕ) (v w : 
   }
 
 -- a mirror shows two level racks alike
-pub shown_level : (ts tc : Bool) (v w : RackView) (a : Option Dims) (f m p s : ℕ) → IsLevel ts tc v w
-    → shown ts tc v a f m p s ≡ shown ts tc w a f m p s
-shown_level ts tc v w a f m p s k =
+pub shown_level : (ts tc : Bool) (v w : RackView) (a : Option Dims) (f m p s : ℕ) (facts : List ℕ → Bool) → IsLevel ts tc v w
+    → shown ts tc v a f m p s facts ≡ shown ts tc w a f m p s facts
+shown_level ts tc v w a f m p s facts k =
     let look : Option Dims → Contents → (RackUnit → Bool) → RackView = λ x c d. record {
       stands = x;
       contents = c;
@@ -79,6 +79,7 @@ shown_level ts tc v w a f m p s k =
       syncs = s;
       steady = false;
       stopping = false;
+      lasting = facts;
     } in
     let z : RackUnit → Bool = λ u. false in
     ap (λ x. look x (if tc then v.contents else untold_contents) (if tc then v.dirty else z)) (told_same ts v.stands w.stands None k.stands)
@@ -87,81 +88,82 @@ shown_level ts tc v w a f m p s k =
     ∙ ap (λ d. look (if ts then w.stands else None) (if tc then w.contents else untold_contents) d) (told_same tc v.dirty w.dirty z k.dirty)
 
 -- a mirror whose left side is in shows that side
-pub shown_left : (ts tc : Bool) (t : TwoSides) (a : Option Dims) (f m p s : ℕ) → IsTrue t.sides.left
-    → shown ts tc (preferred t) a f m p s ≡ shown ts tc t.left a f m p s
-shown_left ts tc t a f m p s holds = ap (λ v. shown ts tc v a f m p s) (told_is t.sides.left t.left t.right holds)
+pub shown_left : (ts tc : Bool) (t : TwoSides) (a : Option Dims) (f m p s : ℕ) (facts : List ℕ → Bool) → IsTrue t.sides.left
+    → shown ts tc (preferred t) a f m p s facts ≡ shown ts tc t.left a f m p s facts
+shown_left ts tc t a f m p s facts holds = ap (λ v. shown ts tc v a f m p s facts) (told_is t.sides.left t.left t.right holds)
 
 -- and one whose right side is in that one, as the two are level where both are in
-pub shown_right : (ts tc : Bool) (t : TwoSides) (a : Option Dims) (f m p s : ℕ)
+pub shown_right : (ts tc : Bool) (t : TwoSides) (a : Option Dims) (f m p s : ℕ) (facts : List ℕ → Bool)
     → (IsTrue t.sides.left → IsTrue t.sides.right → IsLevel ts tc t.left t.right) → IsTrue t.sides.right
-    → shown ts tc (preferred t) a f m p s ≡ shown ts tc t.right a f m p s
-shown_right ts tc t a f m p s level holds = elim (cases_Bool t.sides.left) [
-  | inl first ↦ shown_left ts tc t a f m p s first ∙ shown_level ts tc t.left t.right a f m p s (level first holds)
-  | inr fails ↦ ap (λ v. shown ts tc v a f m p s) (untold_is t.sides.left t.left t.right fails)
+    → shown ts tc (preferred t) a f m p s facts ≡ shown ts tc t.right a f m p s facts
+shown_right ts tc t a f m p s facts level holds = elim (cases_Bool t.sides.left) [
+  | inl first ↦ shown_left ts tc t a f m p s facts first ∙ shown_level ts tc t.left t.right a f m p s facts (level first holds)
+  | inr fails ↦ ap (λ v. shown ts tc v a f m p s facts) (untold_is t.sides.left t.left t.right fails)
 ]
 
 -- what a call did to each side that was in, and answered of it, the mirror did and answered
 pub by_settled : {T : Type 0} (ts tc : Bool) (old new : TwoSides) (a a' : Option Dims) (f m p s f' m' p' s' : ℕ)
-    (x y r answer : Result T Failed) (Q : RackView → Result T Failed → RackView → Type 0)
+    (facts facts' : List ℕ → Bool) (x y r answer : Result T Failed) (Q : RackView → Result T Failed → RackView → Type 0)
     → answer ≡ r → IsMirror ts tc old a → IsSettled x y r old.sides new.sides
-    → (IsTrue old.sides.left → Q (shown ts tc old.left a f m p s) x (shown ts tc new.left a' f' m' p' s'))
-    → (IsTrue old.sides.right → Q (shown ts tc old.right a f m p s) y (shown ts tc new.right a' f' m' p' s'))
-    → Q (shown ts tc (preferred old) a f m p s) answer (shown ts tc (preferred new) a' f' m' p' s')
-by_settled {T} ts tc old new a a' f m p s f' m' p' s' x y r answer Q same k settled left right =
-    subst (λ z. Q (shown ts tc (preferred old) a f m p s) z (shown ts tc (preferred new) a' f' m' p' s')) (sym same)
+    → (IsTrue old.sides.left → Q (shown ts tc old.left a f m p s facts) x (shown ts tc new.left a' f' m' p' s' facts'))
+    → (IsTrue old.sides.right → Q (shown ts tc old.right a f m p s facts) y (shown ts tc new.right a' f' m' p' s' facts'))
+    → Q (shown ts tc (preferred old) a f m p s facts) answer (shown ts tc (preferred new) a' f' m' p' s' facts')
+by_settled {T} ts tc old new a a' f m p s f' m' p' s' facts facts' x y r answer Q same k settled left right =
+    subst (λ z. Q (shown ts tc (preferred old) a f m p s facts) z (shown ts tc (preferred new) a' f' m' p' s' facts')) (sym same)
     (elim (cases_Bool new.sides.left) [
       | inl holds ↦
           let was : IsTrue old.sides.left = (settled.left_answers holds).0 in
-          subst (λ v. Q v r (shown ts tc (preferred new) a' f' m' p' s')) (sym (shown_left ts tc old a f m p s was))
-          (subst (λ w. Q (shown ts tc old.left a f m p s) r w) (sym (shown_left ts tc new a' f' m' p' s' holds))
-          (subst (λ z. Q (shown ts tc old.left a f m p s) z (shown ts tc new.left a' f' m' p' s')) (sym (settled.left_answers holds).1)
-          (left was)))
+          subst (λ v. Q v r (shown ts tc (preferred new) a' f' m' p' s' facts')) (sym (shown_left ts tc old a f m p s facts was))
+          (subst (λ w. Q (shown ts tc old.left a f m p s facts) r w) (sym (shown_left ts tc new a' f' m' p' s' facts' holds))
+          (subst (λ z. Q (shown ts tc old.left a f m p s facts) z (shown ts tc new.left a' f' m' p' s' facts'))
+          (sym (settled.left_answers holds).1) (left was)))
       | inr fails ↦
           let was : IsTrue old.sides.right = settled.right_in (settled.right_answers fails).0 in
-          let is : shown ts tc (preferred new) a' f' m' p' s' ≡ shown ts tc new.right a' f' m' p' s' =
-          ap (λ v. shown ts tc v a' f' m' p' s') (untold_is new.sides.left new.left new.right fails) in
-          subst (λ v. Q v r (shown ts tc (preferred new) a' f' m' p' s')) (sym (shown_right ts tc old a f m p s k.level was))
-          (subst (λ w. Q (shown ts tc old.right a f m p s) r w) (sym is)
-          (subst (λ z. Q (shown ts tc old.right a f m p s) z (shown ts tc new.right a' f' m' p' s'))
+          let is : shown ts tc (preferred new) a' f' m' p' s' facts' ≡ shown ts tc new.right a' f' m' p' s' facts' =
+          ap (λ v. shown ts tc v a' f' m' p' s' facts') (untold_is new.sides.left new.left new.right fails) in
+          subst (λ v. Q v r (shown ts tc (preferred new) a' f' m' p' s' facts')) (sym (shown_right ts tc old a f m p s facts k.level was))
+          (subst (λ w. Q (shown ts tc old.right a f m p s facts) r w) (sym is)
+          (subst (λ z. Q (shown ts tc old.right a f m p s facts) z (shown ts tc new.right a' f' m' p' s' facts'))
           (sym (settled.right_answers fails).1) (right was)))
     ])
 
 -- a mirror shows two racks that hold the same alike
-pub shown_held : (ts tc : Bool) (a a' : Option Dims) (f m p s f' m' p' s' : ℕ) (v w : RackView) → HoldsTheSame v w
-    → HoldsTheSame (shown ts tc v a f m p s) (shown ts tc w a' f' m' p' s')
-shown_held ts tc a a' f m p s f' m' p' s' v w x = record {
+pub shown_held : (ts tc : Bool) (a a' : Option Dims) (f m p s f' m' p' s' : ℕ) (facts facts' : List ℕ → Bool) (v w : RackView)
+    → HoldsTheSame v w → HoldsTheSame (shown ts tc v a f m p s facts) (shown ts tc w a' f' m' p' s' facts')
+shown_held ts tc a a' f m p s f' m' p' s' facts facts' v w x = record {
   stands = told_same ts w.stands v.stands None (λ _. x.stands);
   contents = told_same tc w.contents v.contents untold_contents (λ _. x.contents);
   dirty = told_same tc w.dirty v.dirty (λ u. false) (λ _. x.dirty);
 }
 
 -- a mirror shows the same after a call that took sides out and changed on none what it holds
-pub mirror_held : (ts tc : Bool) (old new : TwoSides) (a a' : Option Dims) (f m p s f' m' p' s' : ℕ) → IsMirror ts tc old a
-    → HoldsTheSame old.left new.left → HoldsTheSame old.right new.right
+pub mirror_held : (ts tc : Bool) (old new : TwoSides) (a a' : Option Dims) (f m p s f' m' p' s' : ℕ) (facts facts' : List ℕ → Bool)
+    → IsMirror ts tc old a → HoldsTheSame old.left new.left → HoldsTheSame old.right new.right
     → (IsFalse new.sides.left → IsTrue new.sides.right)
     → (IsTrue new.sides.left → IsTrue old.sides.left) → (IsTrue new.sides.right → IsTrue old.sides.right)
-    → HoldsTheSame (shown ts tc (preferred old) a f m p s) (shown ts tc (preferred new) a' f' m' p' s')
-mirror_held ts tc old new a a' f m p s f' m' p' s' k left right some_in left_was right_was = elim (cases_Bool new.sides.left) [
+    → HoldsTheSame (shown ts tc (preferred old) a f m p s facts) (shown ts tc (preferred new) a' f' m' p' s' facts')
+mirror_held ts tc old new a a' f m p s f' m' p' s' facts facts' k left right some_in left_was right_was = elim (cases_Bool new.sides.left) [
   | inl holds ↦
-      subst (λ v. HoldsTheSame v (shown ts tc (preferred new) a' f' m' p' s')) (sym (shown_left ts tc old a f m p s (left_was holds)))
-      (subst (λ w. HoldsTheSame (shown ts tc old.left a f m p s) w) (sym (shown_left ts tc new a' f' m' p' s' holds))
-      (shown_held ts tc a a' f m p s f' m' p' s' old.left new.left left))
+      subst (λ v. HoldsTheSame v (shown ts tc (preferred new) a' f' m' p' s' facts'))
+      (sym (shown_left ts tc old a f m p s facts (left_was holds)))
+      (subst (λ w. HoldsTheSame (shown ts tc old.left a f m p s facts) w) (sym (shown_left ts tc new a' f' m' p' s' facts' holds))
+      (shown_held ts tc a a' f m p s f' m' p' s' facts facts' old.left new.left left))
   | inr fails ↦
-      let is : shown ts tc (preferred new) a' f' m' p' s' ≡ shown ts tc new.right a' f' m' p' s' =
-      ap (λ v. shown ts tc v a' f' m' p' s') (untold_is new.sides.left new.left new.right fails) in
-      subst (λ v. HoldsTheSame v (shown ts tc (preferred new) a' f' m' p' s'))
-      (sym (shown_right ts tc old a f m p s k.level (right_was (some_in fails))))
-      (subst (λ w. HoldsTheSame (shown ts tc old.right a f m p s) w) (sym is)
-      (shown_held ts tc a a' f m p s f' m' p' s' old.right new.right right))
+      let is : shown ts tc (preferred new) a' f' m' p' s' facts' ≡ shown ts tc new.right a' f' m' p' s' facts' =
+      ap (λ v. shown ts tc v a' f' m' p' s' facts') (untold_is new.sides.left new.left new.right fails) in
+      subst (λ v. HoldsTheSame v (shown ts tc (preferred new) a' f' m' p' s' facts'))
+      (sym (shown_right ts tc old a f m p s facts k.level (right_was (some_in fails))))
+      (subst (λ w. HoldsTheSame (shown ts tc old.right a f m p s facts) w) (sym is)
+      (shown_held ts tc a a' f m p s f' m' p' s' facts facts' old.right new.right right))
 ]
 
 -- an attach of a mirror
-pub mirror_attached : (ts tc : Bool) (old new : TwoSides) (a a' : Option Dims) (f m p s f' m' p' s' : ℕ) (dims : Dims)
-    (r : Result Found AttachError) → a' ≡ attached_after dims r → IsMirror ts tc old a → AttachedSides ts dims r old new
+pub mirror_attached : (ts tc : Bool) (old new : TwoSides) (a a' : Option Dims) (f m p s f' m' p' s' : ℕ) (facts facts' : List ℕ → Bool)
+    (dims : Dims) (r : Result Found AttachError) → a' ≡ attached_after dims r → IsMirror ts tc old a → AttachedSides ts dims r old new
     → (IsTrue new.sides.left → IsTrue old.sides.left) → (IsTrue new.sides.right → IsTrue old.sides.right)
-    → AttachDone ts dims (shown ts tc (preferred old) a f m p s) r (shown ts tc (preferred new) a' f' m' p' s')
-mirror_attached ts tc old new a a' f m p s f' m' p' s' dims r is k x left_was right_was =
-    let same = mirror_held ts tc old new a a' f m p s f' m' p' s' k x.left x.right x.some_in left_was right_was in
+    → AttachDone ts dims (shown ts tc (preferred old) a f m p s facts) r (shown ts tc (preferred new) a' f' m' p' s' facts')
+mirror_attached ts tc old new a a' f m p s f' m' p' s' facts facts' dims r is k x left_was right_was =
+    let same = mirror_held ts tc old new a a' f m p s f' m' p' s' facts facts' k x.left x.right x.some_in left_was right_was in
     record {
       answer = λ told.
           subst (λ z. AttachAnswer z dims r) (sym (told_is ts (preferred new).stands None told) ∙ same.stands) (x.answer told);

@@ -6,6 +6,7 @@ use Rattle.bm_rack.specs.declared.rack.Found.TheVariants.{Ready}
 use Rattle.bm_rack.specs.declared.rack.AttachError.{AttachError}
 use Rattle.bm_rack.specs.RackView.{RackView}
 use Rattle.bm_rack.specs.Calls.{AttachAnswer}
+use Rattle.bm_mirror.specs.declared.sides.Sides.{Sides}
 use Rattle.bm_mirror.specs.TwoSides.{TwoSides, preferred}
 
 -- what stands, the contents and what is dirty are as before
@@ -14,9 +15,12 @@ pub record HoldsTheSame (old new : RackView) : Type 0 where
   pub contents : new.contents ≡ old.contents
   pub dirty : new.dirty ≡ old.dirty
 
--- The right side may go out by its answer to an attach: where the mirror answers Ready, and what stands is not told on both sides.
-abbrev pub OutByAnswer : Bool → Result Found AttachError → Type 0
-OutByAnswer told result = IsFalse told × (result ≡ Ok Ready)
+-- The right side lapses in an attach: it goes out by its answer, with no fault. Both were in and the left one is ready, and what stands is
+-- not told on both.
+pub record Lapses (told : Bool) (result : Result Found AttachError) (was is : Bool) (old new : Sides) : Type 0 where
+  pub stays : IsTrue was → IsTrue is
+  pub since : IsFalse was → IsTrue is
+      → IsFalse told × (result ≡ Ok Ready) × IsTrue old.left × IsTrue old.right × IsFalse new.right
 
 -- The sides after they were attached in order.
 pub record AttachedSides (told : Bool) (dims : Dims) (result : Result Found AttachError) (old new : TwoSides) : Type 0 where

@@ -1,5 +1,5 @@
 -- The view of a mirror is well formed. The proof stands in specs/, since the law of an `impl` takes none from proofs/.
-use Rattle.std.proofs.Common.{◌≡◌, inl, inr, refl, ◌&&◌, ℕ, ◌^◌, ◌<◌, Bool, true, false, IsTrue, if◌then◌else◌, Option, Some, None}
+use Rattle.std.proofs.Common.{◌≡◌, inl, inr, refl, ◌&&◌, ℕ, ◌^◌, ◌<◌, Bool, true, false, IsTrue, if◌then◌else◌, List, Option, Some, None}
 use Rattle.std.proofs.Common.{sym, ◌∙◌, ap, subst}
 use Rattle.std.proofs.lemmas.Bool.{and_parts, cases_Bool}
 use Rattle.bm_base.specs.declared.dims.Dims.{Dims}
@@ -35,12 +35,13 @@ record IsAttachedRight (tells_stands tells_contents : Bool) (attached : Option D
   sizes : IsTrue tells_stands → IsTrue tells_contents → (dims : Dims) → v.stands ≡ Some dims → HasSizes dims v.contents
 
 pub mirror_is_consistent : (ls lc gs gc : Bool) (s : TwoSides) (attached : Option Dims) (faults moves pages syncs : ℕ)
+    (facts : List ℕ → Bool)
     → IsMirror (ls && gs) (tells_all ls gs lc gc) s attached
     → IsWellFormed ls lc s.left → IsWellFormed gs gc s.right
     → faults < 2 ^ 64 → moves < 2 ^ 64 → pages < 2 ^ 64 → syncs < 2 ^ 64
     → IsWellFormed (ls && gs) (tells_all ls gs lc gc)
-    (shown (ls && gs) (tells_all ls gs lc gc) (preferred s) attached faults moves pages syncs)
-mirror_is_consistent ls lc gs gc s attached faults moves pages syncs k left right few_faults few_moves few_pages few_syncs = record {
+    (shown (ls && gs) (tells_all ls gs lc gc) (preferred s) attached faults moves pages syncs facts)
+mirror_is_consistent ls lc gs gc s attached faults moves pages syncs facts k left right few_faults few_moves few_pages few_syncs = record {
   attached = λ told dims h. told_is (ls && gs) (preferred s).stands None told ∙ whole.stands told dims h;
   sizes = λ told all dims h.
       subst (HasSizes dims) (sym (told_is (tells_all ls gs lc gc) (preferred s).contents _ all))

@@ -1,4 +1,5 @@
 pub mod TwoSides
+pub mod Lasting
 pub mod SideCalls
 pub mod Attaching
 pub mod Creating

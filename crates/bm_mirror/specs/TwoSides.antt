@@ -1,5 +1,5 @@
 -- The two sides of a mirror, what a contract sees of the mirror, and what holds of the two at every moment.
-use Rattle.std.specs.Prelude.{◌≡◌, ◌&&◌, ℕ, Bool, false, IsTrue, IsFalse, if◌then◌else◌, Option, Some, None}
+use Rattle.std.specs.Prelude.{◌≡◌, ◌&&◌, ℕ, Bool, false, List, IsTrue, IsFalse, if◌then◌else◌, Option, Some, None}
 use Rattle.bm_base.specs.declared.dims.Dims.{Dims}
 use Rattle.bm_base.specs.Contents.{Contents}
 use Rattle.bm_rack.specs.RackView.{RackView}
@@ -24,9 +24,10 @@ preferred s = if s.sides.left then s.left else s.right
 abbrev pub tells_all : Bool → Bool → Bool → Bool → Bool
 tells_all left_stands right_stands left_contents right_contents = (left_stands && right_stands) && (left_contents && right_contents)
 
--- a mirror that shows this rack: what it does not tell is empty, it may fail at any time, and the attached sizes and counts are its own
-abbrev pub shown : Bool → Bool → RackView → Option Dims → ℕ → ℕ → ℕ → ℕ → RackView
-shown tells_stands tells_contents v attached faults moves pages syncs = record {
+-- a mirror that shows this rack: what it does not tell is empty, it may fail at any time, and the attached sizes, the counts and the
+-- lasting facts are its own
+abbrev pub shown : Bool → Bool → RackView → Option Dims → ℕ → ℕ → ℕ → ℕ → (List ℕ → Bool) → RackView
+shown tells_stands tells_contents v attached faults moves pages syncs facts = record {
   stands = if tells_stands then v.stands else None;
   contents = if tells_contents then v.contents else untold_contents;
   dirty = if tells_contents then v.dirty else (λ u. false);
@@ -37,6 +38,7 @@ shown tells_stands tells_contents v attached faults moves pages syncs = record {
   syncs = syncs;
   steady = false;
   stopping = false;
+  lasting = facts;
 }
 
 -- Two sides that are both in show the same, as far as it is told, and something stands.

@@ -6,6 +6,7 @@ ghost use Rattle.bm_base.specs.Count.{raised};
 ghost use Rattle.bm_rack.specs.RackView.{IsAttached};
 ghost use Rattle.bm_rack.specs.Calls.{RowFits, RowRead, RowWritten, PageRead, PageWritten, Synced};
 ghost use Rattle.bm_mirror.specs.SideCalls.{SideAsked, SideRead, IsSettled};
+ghost use Rattle.bm_mirror.specs.Lasting.{LevelNow};
 
 use crate::sides::Sides;
 use bm_base::{Failed, PAGE_BYTES};
@@ -126,6 +127,17 @@ pub fn count_fault(faults: &mut u64, failed: bool)
 {
     if failed {
         *faults = faults.saturating_add(1);
+    }
+}
+
+/// The sides that are level: those that were, and, where no call has failed, those that are in.
+pub fn level_after(level: Sides, sides: Sides, faults: u64) -> Sides
+    ensures left { LevelNow faults sides.left level.left result.left }
+    ensures right { LevelNow faults sides.right level.right result.right }
+{
+    Sides {
+        left: level.left || (faults == 0 && sides.left),
+        right: level.right || (faults == 0 && sides.right),
     }
 }
 

@@ -2,8 +2,9 @@
 
 ghost use Rattle.std.specs.Prelude.{◌≡◌, ◌&&◌, ◌<◌, ◌^◌};
 ghost use Rattle.bm_mirror.specs.TwoSides.{two_sides, tells_all, IsMirror};
+ghost use Rattle.bm_mirror.specs.Lasting.{history, Remembers};
 
-use crate::asking::count_fault;
+use crate::asking::{count_fault, level_after};
 use crate::healing::{HealError, Healed, fill_sides};
 use crate::sides::{Side, Sides};
 use bm_base::Dims;
@@ -13,7 +14,13 @@ use bm_rack::Rack;
 ///
 /// A side that is in holds what the mirror holds. A write or a sync goes to each side that is in,
 /// and one that fails goes out, but for the last. A read asks the left side first, and takes none
-/// out. A side that is out is not asked, and `heal` takes it in again. The mirror takes no memory.
+/// out. A side that is out is not asked, and `heal` takes it in again. Where both are in, a create
+/// is `Present` and asks neither. The mirror takes no memory.
+///
+/// It keeps for proofs which sides are level: they were in while no call of it had failed. `lapsed`
+/// says that the right side went out by its answer to an attach, with no fault of its own. `starved`
+/// says that a create made the side that was out and was then refused memory for the other one. No
+/// create is begun after that, since it would find the one made and leave it out, with no fault.
 #[derive(Drop)]
 pub struct Mirror<L: Rack, G: Rack> {
     pub(crate) left: L,
@@ -24,9 +31,14 @@ pub struct Mirror<L: Rack, G: Rack> {
     pub(crate) moves: u64,
     pub(crate) pages: u64,
     pub(crate) syncs: u64,
+    pub(crate) level: Sides,
+    pub(crate) lapsed: bool,
+    pub(crate) starved: bool,
     pub ghost keeps: { IsMirror (L.tells_stands && G.tells_stands)
         (tells_all L.tells_stands G.tells_stands L.tells_contents G.tells_contents)
         (two_sides (L.view left) (G.view right) sides) attached },
+    pub ghost remembers: { Remembers (L.tells_stands && G.tells_stands)
+        (two_sides (L.view left) (G.view right) sides) (history level lapsed starved faults) },
     ghost faults_fit: { faults < 2 ^ 64 },
     ghost moves_fit: { moves < 2 ^ 64 },
     ghost pages_fit: { pages < 2 ^ 64 },
@@ -37,10 +49,12 @@ impl<L: Rack, G: Rack> Mirror<L, G> {
     ghost use Rattle.std.specs.Prelude.{◌≡◌, ◌≢◌, ◌&&◌, ◌*◌, ◌≤◌, true, false, length, None, IsTrue, IsFalse, IsOk};
     ghost use Rattle.bm_base.specs.Count.{raised};
     ghost use Rattle.bm_rack.specs.RackView.{IsClean};
+    ghost use Rattle.bm_rack.specs.Frames.{Keeps};
     ghost use Rattle.bm_mirror.specs.Healing.{MirrorHeal, ShowsTheSame};
     ghost use Rattle.bm_mirror.specs.TwoSides.{two_sides, tells_all, IsLevel, HasSideImages};
+    ghost use Rattle.bm_mirror.specs.Lasting.{LevelNow};
 
-    /// The first side is in, the other out. Nothing is attached, and every count is 0.
+    /// The first side is in and level, the other out. Nothing is attached, and every count is 0.
     pub fn new(left: L, right: G, first: Side) -> Mirror<L, G>
         ensures left { result.left ≡ left }
         ensures right { result.right ≡ right }
@@ -51,19 +65,25 @@ impl<L: Rack, G: Rack> Mirror<L, G> {
         ensures attached { result.attached ≡ None }
         ensures counts { (result.faults ≡ 0) × (result.moves ≡ 0)
             × (result.pages ≡ 0) × (result.syncs ≡ 0) }
+        ensures level { result.level ≡ result.sides }
+        ensures fresh { (result.lapsed ≡ false) × (result.starved ≡ false) }
     {
+        let sides = Sides {
+            left: first == Side::Left,
+            right: first == Side::Right,
+        };
         Mirror {
             left,
             right,
-            sides: Sides {
-                left: first == Side::Left,
-                right: first == Side::Right,
-            },
+            sides,
             attached: None,
             faults: 0,
             moves: 0,
             pages: 0,
             syncs: 0,
+            level: sides,
+            lapsed: false,
+            starved: false,
         }
     }
 
@@ -106,9 +126,18 @@ impl<L: Rack, G: Rack> Mirror<L, G> {
         ensures failed { result ≡ Err HealError.Failed
             → self.new.faults ≡ raised self.old.faults 1 }
         ensures quiet { result ≢ Err HealError.Failed → self.new.faults ≡ self.old.faults }
+        ensures keeps { Keeps
+            (⟦<Mirror<L, G> as Rack>⟧.view self.old) (⟦<Mirror<L, G> as Rack>⟧.view self.new) }
+        ensures left_level { LevelNow self.new.faults self.new.sides.left
+            self.old.level.left self.new.level.left }
+        ensures right_level { LevelNow self.new.faults self.new.sides.right
+            self.old.level.right self.new.level.right }
+        ensures same { (self.new.lapsed ≡ self.old.lapsed)
+            × (self.new.starved ≡ self.old.starved) }
     {
         let answer = fill_sides(&mut self.left, &mut self.right, &mut self.sides, dims, row);
         count_fault(&mut self.faults, answer == Err(HealError::Failed));
+        self.level = level_after(self.level, self.sides, self.faults);
         answer
     }
 
@@ -126,6 +155,9 @@ impl<L: Rack, G: Rack> Mirror<L, G> {
             moves: _,
             pages: _,
             syncs: _,
+            level: _,
+            lapsed: _,
+            starved: _,
         } = self;
         (left, right)
     }

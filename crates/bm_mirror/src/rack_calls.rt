@@ -1,8 +1,8 @@
 //! The calls of a mirror as a rack.
 
 use crate::asking::{
-    asks_right, count_fault, either, read_page_of, read_row_of, settle, sync_of, write_page_of,
-    write_row_of,
+    asks_right, count_fault, either, level_after, read_page_of, read_row_of, settle, sync_of,
+    write_page_of, write_row_of,
 };
 use crate::attaching::{attach_sides, attached_by};
 use crate::creating::create_both;
@@ -19,8 +19,9 @@ impl<L: Rack, G: Rack> Rack for Mirror<L, G> {
     ghost use Rattle.bm_rack.specs.Calls.{RowFits, RowRead, RowWritten, PageRead, PageWritten, Synced, AttachDone, CreateDone};
     ghost use Rattle.bm_mirror.specs.TwoSides.{two_sides, preferred, tells_all, shown};
     ghost use Rattle.bm_mirror.specs.SideCalls.{MirrorCall, MirrorRead};
-    ghost use Rattle.bm_mirror.specs.Attaching.{OutByAnswer};
-    ghost use Rattle.bm_mirror.specs.Creating.{MirrorCreate};
+    ghost use Rattle.bm_mirror.specs.Attaching.{Lapses};
+    ghost use Rattle.bm_mirror.specs.Creating.{MirrorCreate, Starves};
+    ghost use Rattle.bm_mirror.specs.Lasting.{history, mirror_facts, LevelNow};
     ghost use Rattle.bm_mirror.specs.Consistent.{mirror_is_consistent};
 
     ghost tells_stands = { L.tells_stands && G.tells_stands };
@@ -31,12 +32,18 @@ impl<L: Rack, G: Rack> Rack for Mirror<L, G> {
     ghost view = { λ m. shown (L.tells_stands && G.tells_stands)
         (tells_all L.tells_stands G.tells_stands L.tells_contents G.tells_contents)
         (preferred (two_sides (L.view m.left) (G.view m.right) m.sides))
-        m.attached m.faults m.moves m.pages m.syncs };
+        m.attached m.faults m.moves m.pages m.syncs
+        (mirror_facts (L.tells_stands && G.tells_stands)
+        (two_sides (L.view m.left) (G.view m.right) m.sides)
+        (history m.level m.lapsed m.starved m.faults)) };
 
     ghost consistent = { λ m. mirror_is_consistent
         L.tells_stands L.tells_contents G.tells_stands G.tells_contents
         (two_sides (L.view m.left) (G.view m.right) m.sides)
         m.attached m.faults m.moves m.pages m.syncs
+        (mirror_facts (L.tells_stands && G.tells_stands)
+        (two_sides (L.view m.left) (G.view m.right) m.sides)
+        (history m.level m.lapsed m.starved m.faults))
         m.keeps (L.consistent m.left) (G.consistent m.right)
         m.faults_fit m.moves_fit m.pages_fit m.syncs_fit };
 
@@ -53,13 +60,22 @@ impl<L: Rack, G: Rack> Rack for Mirror<L, G> {
         ensures quiet { ¬ IsErrOf result AttachError.Failed → self.new.faults ≡ self.old.faults }
         ensures failed { IsErrOf result AttachError.Failed
             → self.new.faults ≡ raised self.old.faults 1 }
+        ensures lapsed { Lapses (L.tells_stands && G.tells_stands) result
+            self.old.lapsed self.new.lapsed self.old.sides self.new.sides }
+        ensures level { (self.new.level ≡ self.old.level) × (self.new.starved ≡ self.old.starved) }
         ensures sides { MirrorCall 0 0 0 (IsErrOf result AttachError.Failed)
-            (OutByAnswer (L.tells_stands && G.tells_stands) result)
+            (IsTrue self.new.lapsed)
             (two_sides (L.view self.old.left) (G.view self.old.right) self.old.sides)
             (two_sides (L.view self.new.left) (G.view self.new.right) self.new.sides) }
     {
         self.attached = None;
-        let answer = attach_sides(&mut self.left, &mut self.right, &mut self.sides, dims);
+        let answer = attach_sides(
+            &mut self.left,
+            &mut self.right,
+            &mut self.sides,
+            &mut self.lapsed,
+            dims,
+        );
         self.attached = attached_by(answer, dims);
         count_fault(&mut self.faults, answer == Err(AttachError::Failed));
         answer
@@ -80,16 +96,29 @@ impl<L: Rack, G: Rack> Rack for Mirror<L, G> {
         ensures failed { IsErrOf result CreateError.Failed
             → self.new.faults ≡ raised self.old.faults 1 }
         ensures sides { MirrorCreate L.tells_stands L.tells_contents
-            G.tells_stands G.tells_contents dims.now result
+            G.tells_stands G.tells_contents dims.now result self.new.starved
             (two_sides (L.view self.old.left) (G.view self.old.right) self.old.sides)
             (two_sides (L.view self.new.left) (G.view self.new.right) self.new.sides) }
-        ensures together { IsTrue (L.tells_stands && G.tells_stands)
-            → IsTrue self.old.sides.left → IsTrue self.old.sides.right
-            → self.new.sides ≡ self.old.sides }
+        ensures starved { Starves L.tells_stands L.tells_contents
+            G.tells_stands G.tells_contents dims.now result self.old.starved self.new.starved
+            (two_sides (L.view self.old.left) (G.view self.old.right) self.old.sides)
+            (two_sides (L.view self.new.left) (G.view self.new.right) self.new.sides) }
+        ensures lapsed { self.new.lapsed ≡ self.old.lapsed }
+        ensures left_level { LevelNow self.new.faults self.new.sides.left
+            self.old.level.left self.new.level.left }
+        ensures right_level { LevelNow self.new.faults self.new.sides.right
+            self.old.level.right self.new.level.right }
     {
         self.attached = None;
-        let answer = create_both(&mut self.left, &mut self.right, &mut self.sides, dims);
+        let answer = create_both(
+            &mut self.left,
+            &mut self.right,
+            &mut self.sides,
+            &mut self.starved,
+            dims,
+        );
         count_fault(&mut self.faults, answer == Err(CreateError::Failed));
+        self.level = level_after(self.level, self.sides, self.faults);
         answer
     }
 
@@ -114,6 +143,8 @@ impl<L: Rack, G: Rack> Rack for Mirror<L, G> {
         ensures sides { MirrorCall 1 0 0 (IsErr result) ⊥
             (two_sides (L.view self.old.left) (G.view self.old.right) self.old.sides)
             (two_sides (L.view self.new.left) (G.view self.new.right) self.new.sides) }
+        ensures same { (self.new.level ≡ self.old.level) × (self.new.lapsed ≡ self.old.lapsed)
+            × (self.new.starved ≡ self.old.starved) }
         ensures read { MirrorRead
             (two_sides (L.view self.old.left) (G.view self.old.right) self.old.sides)
             (two_sides (L.view self.new.left) (G.view self.new.right) self.new.sides) }
@@ -146,6 +177,8 @@ impl<L: Rack, G: Rack> Rack for Mirror<L, G> {
         ensures sides { MirrorCall 1 0 0 (IsErr result) ⊥
             (two_sides (L.view self.old.left) (G.view self.old.right) self.old.sides)
             (two_sides (L.view self.new.left) (G.view self.new.right) self.new.sides) }
+        ensures same { (self.new.level ≡ self.old.level) × (self.new.lapsed ≡ self.old.lapsed)
+            × (self.new.starved ≡ self.old.starved) }
     {
         self.moves = self.moves.saturating_add(1);
         let left = write_row_of(&mut self.left, self.sides.left, places, bytes);
@@ -174,6 +207,8 @@ impl<L: Rack, G: Rack> Rack for Mirror<L, G> {
         ensures sides { MirrorCall 0 1 0 (IsErr result) ⊥
             (two_sides (L.view self.old.left) (G.view self.old.right) self.old.sides)
             (two_sides (L.view self.new.left) (G.view self.new.right) self.new.sides) }
+        ensures same { (self.new.level ≡ self.old.level) × (self.new.lapsed ≡ self.old.lapsed)
+            × (self.new.starved ≡ self.old.starved) }
         ensures read { MirrorRead
             (two_sides (L.view self.old.left) (G.view self.old.right) self.old.sides)
             (two_sides (L.view self.new.left) (G.view self.new.right) self.new.sides) }
@@ -204,6 +239,8 @@ impl<L: Rack, G: Rack> Rack for Mirror<L, G> {
         ensures sides { MirrorCall 0 1 0 (IsErr result) ⊥
             (two_sides (L.view self.old.left) (G.view self.old.right) self.old.sides)
             (two_sides (L.view self.new.left) (G.view self.new.right) self.new.sides) }
+        ensures same { (self.new.level ≡ self.old.level) × (self.new.lapsed ≡ self.old.lapsed)
+            × (self.new.starved ≡ self.old.starved) }
     {
         self.pages = self.pages.saturating_add(1);
         let left = write_page_of(&mut self.left, self.sides.left, page, bytes);
@@ -228,6 +265,8 @@ impl<L: Rack, G: Rack> Rack for Mirror<L, G> {
         ensures sides { MirrorCall 0 0 1 (IsErr result) ⊥
             (two_sides (L.view self.old.left) (G.view self.old.right) self.old.sides)
             (two_sides (L.view self.new.left) (G.view self.new.right) self.new.sides) }
+        ensures same { (self.new.level ≡ self.old.level) × (self.new.lapsed ≡ self.old.lapsed)
+            × (self.new.starved ≡ self.old.starved) }
     {
         self.syncs = self.syncs.saturating_add(1);
         let left = sync_of(&mut self.left, self.sides.left);

@@ -7,10 +7,14 @@ mod faulty_sides;
 #[cfg(test)]
 mod healing;
 #[cfg(test)]
+mod lasting;
+#[cfg(test)]
 mod marks;
 #[cfg(test)]
 mod noted;
 #[cfg(test)]
 mod order;
+#[cfg(test)]
+mod refused;
 #[cfg(test)]
 mod standing;

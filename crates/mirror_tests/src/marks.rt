@@ -1,6 +1,7 @@
 //! Racks of two disks with three blocks of four bytes, and what is written on them.
 
 ghost use Rattle.std.specs.Prelude.{◌≡◌, ◌<◌, IsTrue, Some};
+ghost use Rattle.bm_rack.specs.Frames.{Keeps};
 
 use bm_base::{Dims, PAGE_BYTES};
 use bm_memrack::MemRack;
@@ -50,7 +51,8 @@ pub fn is_made<R: Rack>(rack: &mut R) -> bool
 pub fn put_row<R: Rack>(rack: &mut R, place: u64, byte: u8) -> bool
     requires attached { (R.view rack.old).attached ≡ Some SMALL }
     requires place { place < 3 }
-    ensures { (R.view rack.new).attached ≡ Some SMALL }
+    ensures attached { (R.view rack.new).attached ≡ Some SMALL }
+    ensures keeps { Keeps (R.view rack.old) (R.view rack.new) }
 {
     rack.write_row(&[Some(place), Some(place)], &[byte; 8])
         .is_ok()
@@ -146,7 +148,9 @@ pub fn mirror_of(alloc: Global, left: &[u64], right: &[u64]) -> Option<Mirror<Me
 /// Heals a mirror.
 pub fn heal<L: Rack, G: Rack>(mirror: &mut Mirror<L, G>) -> Result<Healed, HealError>
     requires { mirror.old.attached ≡ Some SMALL }
-    ensures { mirror.new.attached ≡ Some SMALL }
+    ensures attached { mirror.new.attached ≡ Some SMALL }
+    ensures keeps { Keeps (⟦<Mirror<L, G> as Rack>⟧.view mirror.old)
+        (⟦<Mirror<L, G> as Rack>⟧.view mirror.new) }
 {
     let mut row = [0; 8];
     mirror.heal(&SMALL, &mut row)

@@ -1,7 +1,8 @@
-use Rattle.std.proofs.Common.{◌&&◌, refl}
+use Rattle.std.proofs.Common.{◌&&◌, sym, ◌∙◌, refl}
 use Rattle.bm_mirror.specs.TwoSides.{two_sides, tells_all}
 use Rattle.bm_mirror.proofs.LevelLemmas.{pages_level}
 use Rattle.bm_mirror.proofs.SideLemmas.{all_stands, left_stands, right_stands, left_contents, right_contents, sizes_after, mirror_settled}
+use Rattle.bm_mirror.proofs.KeepingLemmas.{counted, settled_keeps}
 use Rattle.bm_mirror.proofs.rack_calls.MirrorRack.write_page.Goals as goal
 
 pub invariant_of-self-clause-keeps : goal.invariant_of-self-clause-keeps
@@ -35,3 +36,21 @@ invariant_of-self-clause-keeps g c =
     (g.met.G.Rack.consistent right.new.rack) (right_stands ls gs (all_stands ls lc gs gc told)) (right_contents ls lc gs gc told)
     (mirror.keeps.right_attached right_in dims is) b.only.stands)
     okx oky level a b))
+
+pub returns-clause-keeps : goal.returns-clause-keeps
+returns-clause-keeps g c =
+    let l = g.L.Rack in
+    let r = g.G.Rack in
+    let mirror = c.args.self.now in
+    let left = c.write_page_of-left in
+    let right = c.write_page_of-right in
+    settled_keeps l.tells_stands l.tells_contents r.tells_stands r.tells_contents
+    (two_sides (l.view mirror.left) (r.view mirror.right) mirror.sides)
+    (two_sides (l.view left.new.rack) (r.view right.new.rack) c.settle-answer.new.sides)
+    mirror.attached mirror.level mirror.lapsed mirror.starved mirror.faults _ _ _ _ _ _ _ mirror.keeps
+    (g.met.L.Rack.consistent mirror.left) (g.met.G.Rack.consistent mirror.right)
+    (g.met.L.Rack.consistent left.new.rack) (g.met.G.Rack.consistent right.new.rack) c.requires.ready
+    0 1 0 left.result right.result c.settle-answer.result
+    (counted c.is_err.result mirror.faults _ mirror.faults_fit (λ bad. sym c.is_err.ensures.value ∙ bad)
+    c.count_fault.ensures.failed c.count_fault.ensures.quiet)
+    left.ensures.asked right.ensures.asked c.settle-answer.ensures

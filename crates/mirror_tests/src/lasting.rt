@@ -1,0 +1,153 @@
+//! What stays true of the sides of a mirror: a side that is level, one that lapsed, a create that is
+//! begun no more.
+
+ghost use Rattle.std.specs.Prelude.{◌≡◌, ◌⊎◌, IsTrue, IsFalse, Some};
+ghost use Rattle.bm_base.specs.Count.{Rose};
+
+use crate::marks::{
+    OTHER, SMALL, heal, is_made, is_ready, marks_alone, mirror_of, put_row, rack_of,
+};
+use crate::noted::{Kind, Note, Noted, Notes};
+use crate::refused::Refused;
+use bm_memrack::UntoldRack;
+use bm_mirror::{HealError, Healed, Mirror, Side, Sides};
+use bm_rack::{CreateError, Rack};
+use std::cell::RefCell;
+use std::test::Fail;
+
+const BOTH: Sides = Sides {
+    left: true,
+    right: true,
+};
+
+const LEFT: Sides = Sides {
+    left: true,
+    right: false,
+};
+
+const RIGHT: Sides = Sides {
+    left: false,
+    right: true,
+};
+
+/// The left side is made last, and finds no memory: the right one is made then, and out. No create is
+/// begun after that.
+#[test]
+fn a_create_that_found_no_memory(rt: HostRuntime) -> Result<(), Fail> {
+    let notes: Notes = RefCell::new(Vec::new(rt.alloc()));
+    let memory = rack_of(rt.alloc(), &[]).ok_or("memory")?;
+    let mut mirror = Mirror::new(
+        Noted::new(Refused::new(UntoldRack::new()), Side::Left, &notes),
+        Noted::new(memory, Side::Right, &notes),
+        Side::Left,
+    );
+    let answers = [mirror.create(&SMALL), mirror.create(&SMALL)];
+    assert_eq!(rt;
+        answers,
+        [Err(CreateError::OutOfMemory), Err(CreateError::OutOfMemory)]
+    );
+    assert_eq!(rt; mirror.sides(), LEFT);
+    let (_, right) = mirror.parts();
+    assert_eq!(rt;
+        marks_alone(right),
+        Some([Some(0), Some(0), Some(0), Some(0), Some(0)])
+    );
+    let want = [
+        (Side::Right, Kind::Create),
+        (Side::Left, Kind::Create),
+        (Side::Right, Kind::Attach),
+    ];
+    let list = notes.try_borrow().ok().ok_or("notes")?;
+    assert_eq!(rt; list.len() >= 3, true);
+    for (at, (side, kind)) in want.into_iter().enumerate() {
+        assert_eq!(rt; list.get(at), Some(&Note { side, kind }));
+    }
+    Ok(())
+}
+
+/// Where the side that was out found no memory, nothing was made, and a later create is begun.
+#[test]
+fn a_create_that_made_nothing(rt: HostRuntime) -> Result<(), Fail> {
+    let notes: Notes = RefCell::new(Vec::new(rt.alloc()));
+    let memory = rack_of(rt.alloc(), &[]).ok_or("memory")?;
+    let mut mirror = Mirror::new(
+        Noted::new(memory, Side::Left, &notes),
+        Noted::new(Refused::new(UntoldRack::new()), Side::Right, &notes),
+        Side::Left,
+    );
+    let answers = [mirror.create(&SMALL), mirror.create(&SMALL)];
+    assert_eq!(rt;
+        answers,
+        [Err(CreateError::OutOfMemory), Err(CreateError::OutOfMemory)]
+    );
+    let right = Note {
+        side: Side::Right,
+        kind: Kind::Create,
+    };
+    let list = notes.try_borrow().ok().ok_or("notes")?;
+    assert_eq!(rt; list.as_slice(), [right, right].as_slice());
+    Ok(())
+}
+
+/// Two sides that are in are not asked whether something stands.
+#[test]
+fn a_create_of_what_stands(rt: HostRuntime) -> Result<(), Fail> {
+    let mut mirror = mirror_of(rt.alloc(), &[2], &[2]).ok_or("memory")?;
+    let answers = [mirror.create(&SMALL), mirror.create(&OTHER)];
+    assert_eq!(rt; answers, [Ok(()), Err(CreateError::Present)]);
+    assert_eq!(rt; mirror.sides(), BOTH);
+    Ok(())
+}
+
+/// A right side that lapsed stands as before, and a heal takes it in.
+#[test]
+fn a_side_that_lapsed(rt: HostRuntime) -> Result<(), Fail> {
+    let memory = rack_of(rt.alloc(), &[]).ok_or("memory")?;
+    let mut mirror = Mirror::new(UntoldRack::new(), memory, Side::Left);
+    assert_eq!(rt; lapse(&mut mirror), Some([BOTH, LEFT, BOTH]));
+    Ok(())
+}
+
+/// Which sides are in after a heal, after an attach that right does not follow, and after a second
+/// heal.
+fn lapse<L: Rack, G: Rack>(mirror: &mut Mirror<L, G>) -> Option<[Sides; 3]> {
+    if !is_ready(mirror) {
+        return None;
+    }
+    let _ = heal(mirror);
+    let level = mirror.sides();
+    let _ = mirror.attach(&OTHER);
+    let lapsed = mirror.sides();
+    if !is_ready(mirror) {
+        return None;
+    }
+    let _ = heal(mirror);
+    Some([level, lapsed, mirror.sides()])
+}
+
+/// A heal and two writes. By what each call keeps, a caller sees that a left side fell that was in
+/// while no call had failed and is out then, and that a side stays level.
+fn worn_out<L: Rack, G: Rack>(mirror: &mut Mirror<L, G>) -> Result<Healed, HealError>
+    requires { mirror.old.attached ≡ Some SMALL }
+    ensures fell { mirror.old.faults ≡ 0 → IsTrue mirror.old.sides.left
+        → IsFalse mirror.new.sides.left
+        → Rose (L.view mirror.old.left).faults (L.view mirror.new.left).faults }
+    ensures level { IsTrue mirror.old.level.right → IsTrue mirror.new.level.right }
+{
+    let healed = heal(mirror);
+    put_row(mirror, 0, 1);
+    put_row(mirror, 1, 2);
+    healed
+}
+
+/// Left fails at its second write: its count rose, and right is in.
+#[test]
+fn a_side_that_fell(rt: HostRuntime) -> Result<(), Fail> {
+    let mut mirror = mirror_of(rt.alloc(), &[4], &[]).ok_or("memory")?;
+    if !is_made(&mut mirror) {
+        return Err(Fail::from("made"));
+    }
+    assert_eq!(rt; worn_out(&mut mirror), Ok(Healed::Level));
+    assert_eq!(rt; mirror.sides(), RIGHT);
+    Ok(())
+}
