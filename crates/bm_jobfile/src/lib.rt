@@ -14,5 +14,10 @@ mod reading;
 mod run_table;
 mod shape_table;
 
+pub use fields::{FieldError, array_field, table_field, value_at};
 pub use job_file::{JobError, JobFile};
-pub use reading::read_job;
+pub use key_tables::{TableName, has_known_keys};
+pub use kinds::Kind;
+pub use number_lists::{ByteList, bytes_of};
+pub use reading::{document_in, read_job};
+pub use shape_table::{ShapeNumbers, shape_numbers};

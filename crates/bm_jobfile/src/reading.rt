@@ -62,8 +62,8 @@ pub fn read_job(alloc: Global, text: &[u8]) -> Result<JobFile, JobError>
     file_of(job)
 }
 
-// The document of a text.
-fn document_in(alloc: Global, text: &[u8]) -> Result<Table, JobError>
+/// The document of a text of at most 65536 bytes.
+pub fn document_in(alloc: Global, text: &[u8]) -> Result<Table, JobError>
     ensures ok { IfOk result (λ document. IsDocument text.now (table_view document)) }
     ensures text { IsErrOf result JobError.Text → IsNoDocument text.now }
     ensures cause { IfErr result (λ e. (e ≡ JobError.Text) ⊎ (e ≡ JobError.OutOfMemory)) }

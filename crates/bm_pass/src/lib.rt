@@ -6,5 +6,5 @@ mod one_load;
 mod rows;
 mod whole_pass;
 
-pub use one_load::load_step;
+pub use one_load::{fill_load, load_step};
 pub use whole_pass::run_pass;

@@ -51,11 +51,11 @@ fn fill_rows<R: Rack>(
     Ok(())
 }
 
-// Reads a load into the load list, each record to its place, in M/BD row calls.
-//
-// Where that is faster the records go in two steps: whole runs as the rows arrive, and then records
-// within tiles.
-fn fill_load<R: Rack>(
+/// Reads a load into the load list, each record to its place, in M/BD row calls.
+///
+/// Where that is faster the records go in two steps: whole runs as the rows arrive, and then records
+/// within tiles.
+pub fn fill_load<R: Rack>(
     rack: &mut R,
     shape: &Shape,
     from: Area,
