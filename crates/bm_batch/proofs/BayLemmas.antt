@@ -1,27 +1,34 @@
 -- Turns of one bay in a row.
-use Rattle.std.proofs.Common.{◌≡◌, ◌≢◌, ◌⊎◌, inl, inr, ℕ, ◌+◌, ◌-◌, ◌*◌, ◌≤◌, Bool, IsTrue, IsSome, Option, Some, None, refl, sym, ◌∙◌}
+use Rattle.std.proofs.Common.{◌≡◌, ◌≢◌, ◌⊎◌, inl, inr, ℕ, ◌+◌, ◌-◌, ◌*◌, ◌<◌}
+use Rattle.std.proofs.Common.{◌≤◌, Bool, IsTrue, IsSome, List, Option, Some, None, refl, sym, ◌∙◌}
 use Rattle.std.proofs.Common.{ap, subst}
 use Rattle.std.proofs.Common.{subst₂, arith}
 use Rattle.std.proofs.lemmas.Bool.{false≢true}
 use Rattle.bm_base.proofs.CaseLemmas.{raised_both}
 use Rattle.bm_base.specs.declared.shape.Shape.{Shape}
+use Rattle.bm_base.specs.Contents.{page_at, page_unit}
 use Rattle.bm_base.specs.Count.{raised, Rose}
 use Rattle.bm_base.specs.Shape.{dims_of, loads_of}
 use Rattle.bm_rack.specs.RackView.{RackView, IsWellFormed}
 use Rattle.bm_rack.specs.Frames.{DirtiesOnly}
 use Rattle.bm_rack.specs.Image.{SameInput}
 use Rattle.bm_rack.proofs.FrameLemmas.{DirtiesOnly-trans, Keeps-refl, Keeps-trans, HasCause-later, raised-zero, raised-raised}
+use Rattle.bm_control.specs.Bodies.{IsPassBody}
+use Rattle.bm_control.specs.Pages.{pass_body}
 use Rattle.bm_control.specs.Sound.{IsSound}
 use Rattle.bm_control.proofs.EqualLemmas.{some_injective}
 use Rattle.bm_job.specs.declared.machine.Machine.{Machine}
 use Rattle.bm_job.specs.declared.answers.RunError.{RunError}
 use Rattle.bm_job.specs.declared.answers.RunError.TheVariants.{Failed, BadPage}
+use Rattle.bm_job.specs.Begins.{HasBodies}
 use Rattle.bm_job.specs.Follows.{Follows, loads_moved}
 use Rattle.bm_job.specs.Runs.{IsWorkUnit, loads_left, load_rows}
 use Rattle.bm_job.specs.Turns.{SameJob}
 use Rattle.bm_job.proofs.EndLemmas.{turn_complete}
 use Rattle.bm_job.proofs.PaceLemmas.{loads_few}
+use Rattle.bm_job.proofs.RangeLemmas.{few_passes}
 use Rattle.bm_job.proofs.RunLemmas.{same_input_none, same_input_then, same_job_then}
+use Rattle.bm_job.proofs.WorkUnitLemmas.{body_kept}
 use Rattle.bm_batch.specs.declared.bay_slot.BaySlot.{BaySlot}
 use Rattle.bm_batch.specs.declared.bay_state.BayState.{BayState}
 use Rattle.bm_batch.specs.declared.bay_state.BayState.TheVariants.{Going, Finished, Ended}
@@ -91,6 +98,7 @@ went_none ts tc m slot v well going machine =
       };
       refusal = λ e is. absurd (still_going slot.state going e is);
       good = λ told_stands told_contents follows page is. still_going slot.state going (BadPage page) is;
+      bad = λ told bodies page is. still_going slot.state going (BadPage page) is;
     }
 
 pub turns_none : (ts tc : Bool) (slot : BaySlot) (v : RackView) → IsWellFormed ts tc v → BayTurns ts tc slot slot v v
@@ -126,6 +134,21 @@ rows_left m next same further =
     ap (λ (k : ℕ). load_rows m.shape k) left in
     let sum = rows_then m.shape (loads_moved m) (loads_moved next) (m.passes * loads_of m.shape) further (omega (arith, few, all)) in
     ap (λ (k : ℕ). load_rows m.shape (loads_moved next - loads_moved m) + k) (shape ∙ rest) ∙ sum
+
+-- the bodies of all passes stand as before
+bodies_kept : (m next : Machine) (u v : RackView) → SameJob m next → DirtiesOnly (IsWorkUnit m.shape) u v → HasBodies m u.contents
+    → HasBodies next v.contents
+bodies_kept m next u v same frame bodies k below =
+    let few = few_passes m.shape m.job m.passes m.done m.every m.part m.slot m.load m.keeps in
+    let early : k < m.passes = subst (λ (p : ℕ). k < p) same.passes below in
+    let page : page_at v.contents (pass_body k) ≡ page_at u.contents (pass_body k) =
+    frame.contents (page_unit (pass_body k)) (body_kept m.shape k (omega (arith, early, few))) in
+    let has = bodies k early in
+    record {
+      pass = has.pass;
+      body = subst (λ (s : Shape). IsPassBody s k (page_at v.contents (pass_body k)) has.pass) (sym same.shape)
+          (subst (λ (p : List ℕ). IsPassBody m.shape k p has.pass) (sym page) has.body);
+    }
 
 went_then : (ts tc : Bool) (m : Machine) (b c : BaySlot) (u v w : RackView) → b.state ≡ Going → (x : BayWent ts tc m b u v)
     → BayWent ts tc x.next c v w → BayWent ts tc m c u w
@@ -164,6 +187,7 @@ went_then ts tc m b c u v w going x y =
       };
       refusal = y.refusal;
       good = λ told_stands told_contents follows. y.good told_stands told_contents (x.follows told_stands told_contents follows on);
+      bad = λ told bodies. y.bad told (bodies_kept m x.next u v x.same x.call.frame bodies);
     }
 
 pub turns_then : (ts tc : Bool) (a b c : BaySlot) (u v w : RackView) → BayTurns ts tc a b u v → BayTurns ts tc b c v w

@@ -17,7 +17,7 @@ use Rattle.bm_control.proofs.EqualLemmas.{some_injective, none_some}
 use Rattle.bm_job.specs.declared.machine.Machine.{Machine}
 use Rattle.bm_job.specs.declared.answers.RunError.{RunError}
 use Rattle.bm_job.specs.declared.answers.RunError.TheVariants.{Failed, BadPage}
-use Rattle.bm_job.specs.Begins.{BeginAnswer, IsFresh, OpensOnly}
+use Rattle.bm_job.specs.Begins.{BeginAnswer, IsFresh, HasBodies, OpensOnly}
 use Rattle.bm_job.specs.Follows.{Follows, loads_moved}
 use Rattle.bm_job.proofs.CallLemmas.{call_of}
 use Rattle.bm_job.proofs.EndLemmas.{begin_complete}
@@ -34,6 +34,7 @@ pub record BeginFacts (ts tc : Bool) (s : Shape) (job : Job) (passes every : ℕ
   pub fresh : IfOk r (λ m. IsFresh s job m)
   pub gone : IsTrue tc → IfOk r (λ m. IsGone old.contents (loads_moved m))
   pub follows : IsTrue ts → IsTrue tc → IsSound old → IfOk r (λ m. Follows m new)
+  pub bodies : IsTrue tc → IfOk r (λ m. HasBodies m new.contents)
   pub clean : OnOk r (IsClean new)
   pub sound : IsTrue ts → IsTrue tc → IsSound old → IsSound new
   pub good : IsTrue ts → IsTrue tc → IsSound old → (page : ℕ) → ¬ IsErrOf r (BadPage page)
@@ -98,6 +99,7 @@ bay_begun ts tc s job passes every m slot old new well machine state f = record 
       (job_done ts tc m old new told_stands told_contents well (finished_state m slot.state state fin)
       (f.follows told_stands told_contents sound)
       (subst (λ (t : Shape). SameInput (dims_of t) old new) (sym f.fresh.shape) f.input));
+  bodies = λ told n is. here (λ k. HasBodies k new.contents) n is (f.bodies told);
   clean = λ n is. f.clean;
   sound = f.sound;
   input = f.input;
@@ -129,6 +131,7 @@ bay_refused ts tc s job passes every e slot old new machine state f = record {
   follows = λ told_stands told_contents sound n is. absurd (no_machine n is);
   gates = λ told_stands told_contents sound n is. absurd (no_machine n is);
   done = λ told_stands told_contents sound fin n is. absurd (no_machine n is);
+  bodies = λ told n is. absurd (no_machine n is);
   clean = λ n is. absurd (no_machine n is);
   sound = f.sound;
   input = f.input;

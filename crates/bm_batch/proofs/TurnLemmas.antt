@@ -5,6 +5,7 @@ use Rattle.std.proofs.Common.{refl, sym, ◌∙◌, ap, subst, arith}
 use Rattle.std.proofs.Math.Nat.{mul-le-mul_left}
 use Rattle.std.proofs.lemmas.Bool.{cases_lt, false≢true}
 use Rattle.bm_base.specs.declared.shape.Shape.{Shape}
+use Rattle.bm_base.specs.Contents.{Contents}
 use Rattle.bm_base.specs.Count.{raised}
 use Rattle.bm_base.specs.Shape.{dims_of, load_stripes}
 use Rattle.bm_rack.specs.RackView.{RackView, IsWellFormed}
@@ -18,6 +19,7 @@ use Rattle.bm_job.specs.declared.answers.RunError.TheVariants.{Failed, BadPage}
 use Rattle.bm_job.specs.declared.answers.Turn.{Turn}
 use Rattle.bm_job.specs.declared.answers.Turn.TheVariants.{Went}
 use Rattle.bm_job.specs.declared.answers.Turn.TheVariants as done
+use Rattle.bm_job.specs.Begins.{HasBodies}
 use Rattle.bm_job.specs.Follows.{Follows, loads_moved}
 use Rattle.bm_job.specs.Runs.{IsWorkUnit, loads_left, load_rows}
 use Rattle.bm_job.specs.Turns.{SameJob, IsNextOf, IsStopped, TurnAnswer, IsTurnUnit, IsBadBody, form_pages, durable_pages, durable_syncs}
@@ -112,6 +114,12 @@ one_within m left =
 raised_more : (a b k l : ℕ) → b ≤ raised a k → k ≤ l → b ≤ raised a l
 raised_more a b k l high more = omega (arith, high, more)
 
+-- ---- bodies
+
+-- where those of all passes stand, that of the pass under way is no other
+no_bad_body : (m : Machine) (v : Contents) (page : ℕ) → m.done < m.passes → HasBodies m v → ¬ IsBadBody m v page
+no_bad_body m v page left bodies bad = (let has = bodies m.done left in bad.1 has.pass has.body)
+
 -- ---- a job that is done
 
 -- what a machine that follows and has no pass left says
@@ -189,6 +197,7 @@ bay_went ts tc m next r slot old new left machine state f = record {
       (λ is. ended_by r Failed (sym state ∙ is)) f.call;
   refusal = λ e is. subst (λ (x : Result Turn RunError). TurnAnswer next x) (ended_by r e (sym state ∙ is)) f.answer;
   good = λ ts tc fo page is. f.good ts tc fo page (ended_by r (BadPage page) (sym state ∙ is));
+  bad = λ told bodies page is. no_bad_body m old.contents page left bodies (f.bad told page (ended_by r (BadPage page) (sym state ∙ is)));
 }
 
 -- a state that is Finished is that of a machine with no pass left

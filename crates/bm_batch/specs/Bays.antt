@@ -23,7 +23,7 @@ use Rattle.bm_job.specs.declared.answers.RunError.TheVariants.{Failed, BadPage}
 use Rattle.bm_job.specs.declared.answers.Turn.{Turn}
 use Rattle.bm_job.specs.declared.answers.Turn.TheVariants.{Went}
 use Rattle.bm_job.specs.declared.answers.Turn.TheVariants as done
-use Rattle.bm_job.specs.Begins.{BeginAnswer, IsFresh, OpensOnly}
+use Rattle.bm_job.specs.Begins.{BeginAnswer, IsFresh, HasBodies, OpensOnly}
 use Rattle.bm_job.specs.Follows.{Follows, loads_moved}
 use Rattle.bm_job.specs.Runs.{IsWorkUnit, IsRunnable, loads_left, load_rows}
 use Rattle.bm_job.specs.Turns.{SameJob, IsTurnRefusal, IsTurnUnit, IsBadBody, form_pages, durable_pages, durable_syncs}
@@ -101,6 +101,8 @@ pub record BayBegun (told_stands told_contents : Bool) (s : Shape) (job : Job) (
   pub gates : IsTrue told_stands → IsTrue told_contents → IsSound old
       → (m : Machine) → slot.machine ≡ Some m → (slot.state ≡ Finished) ↔ AreAllOpen m.passes new.contents
   pub done : IsTrue told_stands → IsTrue told_contents → IsSound old → BayDone slot old new
+  -- the bodies of all its passes stand
+  pub bodies : IsTrue told_contents → (m : Machine) → slot.machine ≡ Some m → HasBodies m new.contents
   pub clean : (m : Machine) → slot.machine ≡ Some m → IsClean new
   -- at each exit
   pub sound : IsTrue told_stands → IsTrue told_contents → IsSound old → IsSound new
@@ -144,6 +146,8 @@ pub record BayWent (told_stands told_contents : Bool) (m : Machine) (slot : BayS
   -- nothing but its own rack ends it
   pub refusal : (e : RunError) → slot.state ≡ Ended e → IsTurnRefusal e
   pub good : IsTrue told_stands → IsTrue told_contents → Follows m old → (page : ℕ) → slot.state ≢ Ended (BadPage page)
+  -- no page ends it where the bodies of all passes stood
+  pub bad : IsTrue told_contents → HasBodies m old.contents → (page : ℕ) → slot.state ≢ Ended (BadPage page)
 
 -- What any turns did with one bay: nothing where it was not Going.
 pub record BayTurns (told_stands told_contents : Bool) (before after : BaySlot) (old new : RackView) : Type 0 where

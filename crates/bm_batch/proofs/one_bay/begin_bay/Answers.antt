@@ -11,6 +11,7 @@ returns g c =
       fresh = c.begin.ensures.fresh;
       gone = c.begin.ensures.gone;
       follows = c.begin.ensures.follows;
+      bodies = c.begin.ensures.bodies;
       clean = c.begin.ensures.clean;
       sound = c.begin.ensures.sound;
       good = c.begin.ensures.good;

@@ -1,0 +1,12 @@
+//! Worked batches over devices in memory.
+
+#![tactic(auto)]
+
+#[cfg(test)]
+mod batch_rows;
+#[cfg(test)]
+mod calling;
+#[cfg(test)]
+mod refusals;
+#[cfg(test)]
+mod texts;

@@ -1,0 +1,12 @@
+pub mod Words
+pub mod Moment
+pub mod Lists
+pub mod Texts
+pub mod Bays
+pub mod Filling
+pub mod Opening
+pub mod Dumping
+pub mod Running
+pub mod Causes
+pub mod Output
+pub mod BatchCall
