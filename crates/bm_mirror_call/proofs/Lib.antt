@@ -1,0 +1,10 @@
+pub mod WordLemmas
+pub mod TextLemmas
+pub mod HealLemmas
+pub mod SeenLemmas
+pub mod SidesLemmas
+pub mod VerbLemmas
+pub mod CommandLemmas
+pub mod FlipLemmas
+pub mod CallLemmas
+pub mod LineLemmas

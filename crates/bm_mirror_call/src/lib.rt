@@ -1,0 +1,12 @@
+//! The commands over a mirror of two racks, and the one call that carries them out.
+
+#![tactic(auto)]
+
+mod healing;
+mod job_text;
+mod mirror_call;
+mod sides_line;
+mod words;
+
+pub use mirror_call::mirror_top;
+pub use words::mirror_job;
