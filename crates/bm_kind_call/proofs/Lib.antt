@@ -1,0 +1,4 @@
+pub mod TextLemmas
+pub mod EarlyLemmas
+pub mod RanLemmas
+pub mod TopLemmas
