@@ -1,1 +1,5 @@
 pub mod Call
+pub mod BatchOverFiles
+pub mod MirrorCalls
+pub mod KindCall
+pub mod Choice

@@ -5,6 +5,11 @@
 
 #![tactic(auto)]
 
+mod batch;
+mod choice;
+mod kind;
+mod mirror;
+mod one_job;
 mod program;
 mod start_error;
 mod streams;

@@ -1,104 +1,21 @@
 //! The words, the call that does all, and the exit status.
 
-ghost use Rattle.std.specs.Prelude.{◌≡◌, ◌++◌, Err, IfOk, IsErr, IsTrue};
-ghost use Rattle.bm_base.specs.Count.{Rose};
-ghost use Rattle.bm_rack.specs.Sink.{AppendsFront};
-ghost use Rattle.bm_program.specs.Call.{streams_tell, streams_of, CallsOverRack, CallsWithJob};
-ghost use Rattle.bm_top.specs.Moment.{source_of, sink_of};
+ghost use Rattle.std.specs.Prelude.{◌≡◌, Err, IfOk};
 ghost use Rattle.bm_top.specs.Status.{code_of};
-ghost use Rattle.bm_top.specs.StatusWords.{line_of};
 
+use crate::choice::{Choice, call_chosen, choice_of};
 use crate::start_error::StartError;
 use crate::streams::Stream;
-use bm_filerack::{FileRack, FileSource, LockFile, StdSink, StdSource};
-use bm_memrack::SureSource;
-use bm_rack::{Sink, Source};
-use bm_top::{Status, bmmc_top, job_word};
+use bm_filerack::{LockFile, StdSink, StdSource};
+use bm_top::Status;
 use std::env;
 use std::env::Env;
 use std::io::{Read, Write};
 use std::os::unix::fs::FileExt;
 use std::rt::Files;
 
-// Makes the call with these sources and sinks, over the disks of the current folder.
-//
-// Nothing is read or written where memory for the rack is refused.
-fn call_over<F, J: Source, S: Source, K: Sink, E: Sink>(
-    rt: &F,
-    words: &[String],
-    job: &mut J,
-    input: &mut S,
-    out: &mut K,
-    err: &mut E,
-) -> Result<Status, StartError>
-where
-    F: Files + AllocGlobal,
-    F::File: FileExt + LockFile,
-    ensures call { IfOk result (λ status. CallsOverRack
-        (streams_tell J.tells S.tells K.tells) words.now
-        (streams_of (source_of (J.left job.old) (J.faults job.old))
-        (source_of (S.left input.old) (S.faults input.old))
-        (sink_of (K.taken out.old) (K.faults out.old))) status
-        (streams_of (source_of (J.left job.new) (J.faults job.new))
-        (source_of (S.left input.new) (S.faults input.new))
-        (sink_of (K.taken out.new) (K.faults out.new)))) }
-    ensures line { IfOk result (λ status. IsTrue E.tells
-        → ¬ Rose (E.faults err.old) (E.faults err.new)
-        → E.taken err.new ≡ E.taken err.old ++ line_of status) }
-    ensures front { IfOk result (λ status. IsTrue E.tells
-        → AppendsFront (E.taken err.old) (E.taken err.new) (line_of status)) }
-    ensures memory { IsErr result → result ≡ Err StartError.OutOfMemory }
-    ensures untouched { IsErr result
-        → (input.new ≡ input.old) × (out.new ≡ out.old) × (err.new ≡ err.old) }
-{
-    let alloc = rt.alloc();
-    match FileRack::new(rt, alloc) {
-        Ok(mut rack) => Ok(bmmc_top(alloc, words, job, input, out, err, &mut rack)),
-        Err(_) => Err(StartError::OutOfMemory),
-    }
-}
-
-// Opens the job file that the words name, and makes the call with it and these streams.
-//
-// The job source is one of no bytes where the words name none.
-fn call<F, S: Source, K: Sink, E: Sink>(
-    rt: &F,
-    words: &[String],
-    input: &mut S,
-    out: &mut K,
-    err: &mut E,
-) -> Result<Status, StartError>
-where
-    F: Files + AllocGlobal,
-    F::File: FileExt + LockFile,
-    ensures call { IfOk result (λ status. CallsWithJob S.tells K.tells words.now
-        (source_of (S.left input.old) (S.faults input.old))
-        (sink_of (K.taken out.old) (K.faults out.old)) status
-        (source_of (S.left input.new) (S.faults input.new))
-        (sink_of (K.taken out.new) (K.faults out.new))) }
-    ensures line { IfOk result (λ status. IsTrue E.tells
-        → ¬ Rose (E.faults err.old) (E.faults err.new)
-        → E.taken err.new ≡ E.taken err.old ++ line_of status) }
-    ensures front { IfOk result (λ status. IsTrue E.tells
-        → AppendsFront (E.taken err.old) (E.taken err.new) (line_of status)) }
-    ensures memory { IsErr result → result ≡ Err StartError.OutOfMemory }
-    ensures untouched { IsErr result
-        → (input.new ≡ input.old) × (out.new ≡ out.old) × (err.new ≡ err.old) }
-{
-    match job_word(words) {
-        Some(path) => {
-            let mut job = FileSource::new(rt, path);
-            call_over(rt, words, &mut job, input, out, err)
-        }
-        None => {
-            let mut empty = SureSource::new(Vec::new(rt.alloc()));
-            call_over(rt, words, &mut empty, input, out, err)
-        }
-    }
-}
-
-/// Makes the call that the program's words spell, with its standard streams, over the disks of the
-/// current folder.
+/// Makes the call that the program's words spell, with its standard streams. The first word chooses
+/// the call, and the call the disks.
 ///
 /// Nothing is opened, read or written where a stream is closed or the words can't be had.
 pub fn run<R, I, O, E>(rt: &R, input: I, out: O, err: E) -> Result<Status, StartError>
@@ -116,8 +33,13 @@ where
     let mut input = StdSource::new(input);
     let mut out = StdSink::new(out);
     let mut err = StdSink::new(err);
-    call::<R, StdSource<I>, StdSink<O>, StdSink<E>>(
+    let choice = match words.first() {
+        Some(word) => choice_of(word.as_str()),
+        None => Choice::One,
+    };
+    call_chosen::<R, StdSource<I>, StdSink<O>, StdSink<E>>(
         rt,
+        choice,
         words.as_slice(),
         &mut input,
         &mut out,

@@ -3,6 +3,8 @@
 #![tactic(auto)]
 
 #[cfg(test)]
+mod batch_runs;
+#[cfg(test)]
 mod calling;
 #[cfg(test)]
 mod damaged_files;
@@ -13,7 +15,11 @@ mod job_files;
 #[cfg(test)]
 mod large_carry;
 #[cfg(test)]
+mod large_kinds;
+#[cfg(test)]
 mod large_lists;
+#[cfg(test)]
+mod mirrored_files;
 #[cfg(test)]
 mod program;
 #[cfg(test)]

@@ -1,0 +1,70 @@
+//! Which call the program makes.
+
+ghost use Rattle.std.specs.Prelude.{◌≡◌, Err, IfOk, IsErr};
+ghost use Rattle.bm_program.specs.Choice.{Chooses, CallsChosen};
+ghost use Rattle.bm_top.specs.Moment.{source_of, sink_of};
+
+use crate::batch::call_batch;
+use crate::kind::call_kind;
+use crate::mirror::call_mirror;
+use crate::one_job::call_one;
+use crate::start_error::StartError;
+use bm_filerack::LockFile;
+use bm_rack::{Sink, Source};
+use bm_top::Status;
+use std::os::unix::fs::FileExt;
+use std::rt::Files;
+
+/// The calls that the program makes.
+#[derive(Clone, Copy, Debug, PartialEq, Eq)]
+pub enum Choice {
+    /// Several jobs in turn, of the words `batch` and `batch-run`.
+    Batch,
+    /// A command over two racks, of the word `mirror`.
+    Mirror,
+    /// A transform over chosen bits, of the word `kind`.
+    Kind,
+    /// A command of one job, of all other words.
+    One,
+}
+
+/// The call that a first word chooses.
+pub fn choice_of(word: &str) -> Choice
+    ensures { Chooses word.now result }
+{
+    match word {
+        "batch" | "batch-run" => Choice::Batch,
+        "mirror" => Choice::Mirror,
+        "kind" => Choice::Kind,
+        _ => Choice::One,
+    }
+}
+
+/// Makes the call of this choice with all words and these streams.
+pub fn call_chosen<F, S: Source, K: Sink, E: Sink>(
+    rt: &F,
+    choice: Choice,
+    words: &[String],
+    input: &mut S,
+    out: &mut K,
+    err: &mut E,
+) -> Result<Status, StartError>
+where
+    F: Files + AllocGlobal,
+    F::File: FileExt + LockFile,
+    ensures call { IfOk result (λ status. CallsChosen choice S.tells K.tells words.now
+        (source_of (S.left input.old) (S.faults input.old))
+        (sink_of (K.taken out.old) (K.faults out.old)) status
+        (source_of (S.left input.new) (S.faults input.new))
+        (sink_of (K.taken out.new) (K.faults out.new))) }
+    ensures memory { IsErr result → result ≡ Err StartError.OutOfMemory }
+    ensures untouched { IsErr result
+        → (input.new ≡ input.old) × (out.new ≡ out.old) × (err.new ≡ err.old) }
+{
+    match choice {
+        Choice::Batch => call_batch(rt, words, input, out, err),
+        Choice::Mirror => call_mirror(rt, words, input, out, err),
+        Choice::Kind => call_kind(rt, words, input, out, err),
+        Choice::One => call_one(rt, words, input, out, err),
+    }
+}
