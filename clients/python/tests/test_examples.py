@@ -48,8 +48,8 @@ class Examples(FolderTest):
 
     def test_each_job_text_has_a_plan(self) -> None:
         names = {path.stem for path in EXAMPLES.glob("*.toml")}
-        self.assertEqual(names, {*MOVED, "walsh", "list", "drill"})
-        for name in names:
+        self.assertEqual(names, {*MOVED, "walsh", "list", "drill", "sums"})
+        for name in names - {"sums"}:
             self.assertIn(b"shape n=4 b=1 d=1 m=3", self.program(["plan", str(EXAMPLES / f"{name}.toml")]))
 
     def test_sixteen_bytes_move_as_each_map_says(self) -> None:
@@ -64,6 +64,13 @@ class Examples(FolderTest):
         values = [3, 1, 4, 1, 5, 9, 2, 6, 5, 3, 5, 8, 9, 7, 9, 3]
         out = numpy.frombuffer(self.carried("walsh", numpy.array(values, "<u8").tobytes()), "<i8").tolist()
         self.assertEqual(out, [sum(value * (-1) ** bin(k & x).count("1") for x, value in enumerate(values)) for k in range(16)])
+
+    def test_the_sums_over_subsets(self) -> None:
+        ended = subprocess.run(
+            [PROGRAM.path, "kind", EXAMPLES / "sums.toml"], cwd=self.folder, input=numpy.ones(16, "<u8").tobytes(), capture_output=True
+        )
+        self.assertEqual((ended.returncode, ended.stderr), (0, b"bmmc: done\n"))
+        self.assertEqual(numpy.frombuffer(ended.stdout, "<u8").tolist(), [2 ** bin(k).count("1") for k in range(16)])
 
     def test_the_list_is_detected(self) -> None:
         job = str(EXAMPLES / "list.toml")

@@ -16,6 +16,7 @@ TOP = Path(__file__).resolve().parents[3]
 MANUAL = TOP / "docs" / "bmmc.1"
 COMPLETION = TOP / "clients" / "bash" / "bmmc"
 WORDS = ["carry", "plan", "new", "load", "run", "status", "dump", "drop", "detect", "drill", "flip"]
+FURTHER = ["kind", "batch", "batch-run", "mirror"]
 KINDS = ["identity", "reversal", "bit-reversal", "transpose", "gray", "inverse-gray", "rotation", "bits", "rows", "walsh"]
 
 
@@ -36,11 +37,11 @@ class Manual(unittest.TestCase):
 
     def test_the_words_are_those_of_the_script(self) -> None:
         help = (TOP / "bmmc").read_text(encoding="utf-8").partition('HELP = """')[2].partition('"""')[0]
-        self.assertEqual(sorted(re.findall(r"^  bmmc (\w+)", help, re.MULTILINE)), sorted(WORDS + ["install", "uninstall"]))
+        self.assertEqual(sorted(re.findall(r"^  bmmc ([\w-]+)", help, re.MULTILINE)), sorted(WORDS + FURTHER + ["install", "uninstall"]))
 
     def test_it_has_each_word_and_an_example_of_each_kind(self) -> None:
         synopsis = self.text.partition(".SH SYNOPSIS")[2].partition(".SH")[0]
-        for word in WORDS:
+        for word in WORDS + FURTHER:
             self.assertIn(f".BI {word} ", self.text)
             self.assertRegex(synopsis, rf"\b{word}\b")
         for kind in KINDS:
@@ -57,7 +58,7 @@ class Manual(unittest.TestCase):
     def test_the_examples_that_it_names_are_there(self) -> None:
         names = set(re.findall(r"(?<![\w-])([\w-]+\.toml)", self.text)) - {"job.toml"}
         names -= {"found.toml"}
-        self.assertEqual(names, {"transpose.toml", "checkpoint.toml", "list.toml", "drill.toml"})
+        self.assertEqual(names, {"transpose.toml", "checkpoint.toml", "list.toml", "drill.toml", "sums.toml"})
         for name in names | {f"{kind}.toml" for kind in KINDS}:
             self.assertTrue((TOP / "examples" / name).is_file(), name)
 
@@ -80,11 +81,11 @@ class Completion(unittest.TestCase):
         return [line for line in ended.stdout.split("\n") if line]
 
     def test_first_come_the_words(self) -> None:
-        self.assertEqual(self.completed("bmmc", ""), WORDS)
+        self.assertEqual(self.completed("bmmc", ""), WORDS + FURTHER)
         self.assertEqual(self.completed("bmmc", "d"), ["dump", "drop", "detect", "drill"])
 
     def test_the_script_of_the_repository_has_more_words(self) -> None:
-        self.assertEqual(self.completed("script/bmmc", ""), WORDS + ["help", "install", "uninstall"])
+        self.assertEqual(self.completed("script/bmmc", ""), WORDS + FURTHER + ["help", "install", "uninstall"])
 
     def test_then_come_job_texts_and_folders(self) -> None:
         for word in WORDS[:-1]:
@@ -93,6 +94,21 @@ class Completion(unittest.TestCase):
         self.assertEqual(self.completed("bmmc", "flip", ""), [])
         self.assertEqual(sorted(self.completed("script/bmmc", "install", "")), ["folder", "script"])
         self.assertEqual(self.completed("bmmc", "run", "gray.toml", ""), [])
+
+    def test_a_kind_has_a_text_and_a_batch_has_several_after_its_seed(self) -> None:
+        texts = ["folder", "gray.toml", "script", "with space.toml"]
+        self.assertEqual(sorted(self.completed("bmmc", "kind", "")), texts)
+        self.assertEqual(self.completed("bmmc", "kind", "gray.toml", ""), [])
+        for word in ("batch", "batch-run"):
+            self.assertEqual(self.completed("bmmc", word, ""), [])
+            self.assertEqual(sorted(self.completed("bmmc", word, "7", "")), texts)
+            self.assertEqual(sorted(self.completed("bmmc", word, "7", "gray.toml", "")), texts)
+
+    def test_a_mirror_has_a_side_and_then_the_words_of_a_command(self) -> None:
+        self.assertEqual(self.completed("bmmc", "mirror", ""), ["left", "right"])
+        self.assertEqual(self.completed("bmmc", "mirror", "left", ""), WORDS)
+        self.assertEqual(sorted(self.completed("bmmc", "mirror", "right", "run", "")), ["folder", "gray.toml", "script", "with space.toml"])
+        self.assertEqual(self.completed("bmmc", "mirror", "right", "flip", ""), [])
 
 
 def script():
@@ -150,7 +166,7 @@ class Install(unittest.TestCase):
 
 
 class Gate(unittest.TestCase):
-    def run_check(self, gate: int, clients: int) -> subprocess.CompletedProcess:
+    def run_check(self, gate: int, clients: int, memory: int) -> subprocess.CompletedProcess:
         """Runs a copy of `./check` with a gate and with tests that end so."""
         with tempfile.TemporaryDirectory(prefix="bmmc-test-") as name:
             folder = Path(name)
@@ -159,6 +175,7 @@ class Gate(unittest.TestCase):
                 ("bin/rt", f"echo at work; echo '9 passed, {gate} failed'; exit {gate}"),
                 ("bmmc", 'echo "$@" >>noted'),
                 ("clients/python/check", f'echo "program ${{BMMC##*/crates/}}"; echo "7 passed, {clients} failed"; exit {clients}'),
+                ("clients/memory/check", f'echo "memory ${{BMMC##*/crates/}}"; echo "5 passed, {memory} failed"; exit {memory}'),
             ):
                 (folder / path).parent.mkdir(parents=True, exist_ok=True)
                 (folder / path).write_text(f"#!/bin/sh\n{text}\n", encoding="utf-8")
@@ -166,14 +183,17 @@ class Gate(unittest.TestCase):
             environment = {**os.environ, "PATH": f"{folder / 'bin'}:{os.environ['PATH']}"}
             return subprocess.run(["./check"], cwd=folder, env=environment, capture_output=True, text=True)
 
-    def test_it_runs_both_and_ends_with_the_gates_last_line(self) -> None:
-        ended = self.run_check(0, 0)
+    def test_it_runs_all_and_ends_with_the_gates_last_line(self) -> None:
+        ended = self.run_check(0, 0, 0)
         self.assertEqual(ended.returncode, 0)
-        gate, clients = ["at work", "9 passed, 0 failed"], ["program bmmc/out/bmmc", "7 passed, 0 failed"]
+        gate = ["at work", "9 passed, 0 failed"]
+        clients = ["program bmmc/out/bmmc", "7 passed, 0 failed", "memory bmmc/out/bmmc", "5 passed, 0 failed"]
         self.assertEqual(ended.stdout.splitlines(), gate + clients + gate[-1:])
 
     def test_it_ends_with_the_first_that_fails(self) -> None:
-        ended = self.run_check(3, 0)
+        ended = self.run_check(3, 0, 0)
         self.assertEqual((ended.returncode, ended.stdout.splitlines()), (3, ["at work", "9 passed, 3 failed"]))
-        ended = self.run_check(0, 4)
+        ended = self.run_check(0, 4, 0)
         self.assertEqual((ended.returncode, ended.stdout.splitlines()[-1]), (4, "7 passed, 4 failed"))
+        ended = self.run_check(0, 0, 2)
+        self.assertEqual((ended.returncode, ended.stdout.splitlines()[-1]), (2, "5 passed, 2 failed"))
