@@ -51,7 +51,7 @@ STATUSES: dict[int, Status] = {
         "the numbers break this rule of a shape, and none before it. 1: n at most 52. 2: d at most 6. 3: b below m. 4: b + d at "
         "most m. 5: m at most n. 6: width 1 to 4096. 7: 2^m * width at most 2^30. 8, for `drill` alone: N * width at most 2^26. "
         "9: 3 * 2^n * width at most 2^(63 + d)",
-        "choose other numbers: README tells how",
+        "choose other numbers: docs/USING.md tells how",
     ),
     7: Status(
         "job map FAULT",
