@@ -26,7 +26,7 @@ fn ranks_and_inverses(rt: HostRuntime) -> Result<(), Fail> {
     Ok(())
 }
 
-/// The lower and the high rank of two large bit reversals.
+// The lower and the high rank of two large bit reversals.
 #[test]
 fn large_ranks(rt: HostRuntime) -> Result<(), Fail> {
     let a = bit_reversal(48).a;
@@ -36,7 +36,7 @@ fn large_ranks(rt: HostRuntime) -> Result<(), Fail> {
     Ok(())
 }
 
-/// Each map with the permuted list of the sixteen addresses.
+// Each map with the permuted list of the sixteen addresses.
 #[test]
 fn maps_of_sixteen_addresses(rt: HostRuntime) -> Result<(), Fail> {
     let rows: [(Affine, [u64; 16]); 5] = [

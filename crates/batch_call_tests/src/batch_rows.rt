@@ -8,7 +8,7 @@ use bm_top::Status;
 use std::alloc::Global;
 use std::test::Fail;
 
-/// A line of words for each of the seeds 0 to 9.
+// A line of words for each of the seeds 0 to 9.
 const LINES: [&str; 10] = [
     "batch 0 r g i",
     "batch 1 r g i",

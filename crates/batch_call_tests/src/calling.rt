@@ -8,6 +8,7 @@ use bm_memrack::{MemSink, SureSource};
 use bm_rack::{Rack, Source};
 use bm_top::Status;
 use std::alloc::{AllocError, Global};
+use test_helpers::words_of;
 
 /// What a batch said: its status, its output, and its line on standard error.
 #[derive(Drop)]
@@ -15,15 +16,6 @@ pub struct Answer {
     pub status: Status,
     pub out: MemSink,
     pub err: MemSink,
-}
-
-// The words of a line.
-fn words_of(alloc: Global, line: &str) -> Result<Vec<String>, AllocError> {
-    let mut words = Vec::new(alloc);
-    for word in line.split(' ') {
-        words.push(String::from_str(alloc, word)?)?;
-    }
-    Ok(words)
 }
 
 // Job texts as sources.

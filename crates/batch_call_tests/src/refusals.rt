@@ -1,12 +1,13 @@
 //! Batches that are refused: their words, their shapes, their inputs.
 
 use crate::calling::said;
-use crate::texts::{GRAY, IDENTITY, ONE_DISK, REVERSAL, THREE};
+use crate::texts::{IDENTITY, THREE};
 use bm_memrack::SureRack;
 use bm_rack::Rack;
 use bm_top::Status;
 use std::alloc::Global;
 use std::test::Fail;
+use test_helpers::{GRAY, ONE_DISK, REVERSAL};
 
 // So many new bays.
 fn new_bays(alloc: Global, count: usize) -> Option<Vec<SureRack>> {

@@ -1,19 +1,10 @@
 //! Job texts, inputs and outputs of worked batches.
 
-/// The bit reversal of sixteen records of a byte, eight in memory, on two disks in blocks of two.
-pub const REVERSAL: &str =
-    "[shape]\nn = 4\nb = 1\nd = 1\nm = 3\nwidth = 1\n[map]\nkind = \"bit-reversal\"\n";
+use test_helpers::{GRAY, REVERSAL};
 
-/// The Gray code on the same disks.
-pub const GRAY: &str = "[shape]\nn = 4\nb = 1\nd = 1\nm = 3\nwidth = 1\n[map]\nkind = \"gray\"\n";
-
-/// The identity on the same disks.
+/// The identity on the disks of the bit reversal.
 pub const IDENTITY: &str =
     "[shape]\nn = 4\nb = 1\nd = 1\nm = 3\nwidth = 1\n[map]\nkind = \"identity\"\n";
-
-/// The bit reversal on one disk.
-pub const ONE_DISK: &str =
-    "[shape]\nn = 4\nb = 1\nd = 0\nm = 2\nwidth = 1\n[map]\nkind = \"bit-reversal\"\n";
 
 /// The three jobs of a batch.
 pub const THREE: [&str; 3] = [REVERSAL, GRAY, IDENTITY];

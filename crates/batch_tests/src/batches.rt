@@ -8,22 +8,18 @@ ghost use Rattle.bm_batch.specs.Batches.{IsBatchJob};
 use bm_base::Shape;
 use bm_batch::{Batch, BatchJob, BayState};
 use bm_bufs::Bufs;
-use bm_factor::factor;
 use bm_forms::Job;
 use bm_gf2::Affine;
 use bm_named::{bit_reversal, gray, identity};
-use bm_rack::{Found, Rack};
-use run_helpers::{INPUT, REVERSED, has_loaded, holds, is_job};
+use bm_rack::Rack;
+use run_helpers::{GRAYED, INPUT, REVERSED, has_loaded, holds, is_attached, plan_of};
 use std::alloc::Global;
-
-/// The bytes 0 to 15, with the one at x moved to x XOR x / 2.
-pub const GRAY: [u8; 16] = [0, 1, 3, 2, 7, 6, 4, 5, 15, 14, 12, 13, 8, 9, 11, 10];
 
 /// The permutation of bay k, the passes that it takes, and what comes out.
 pub fn work_of(k: usize) -> (Affine, u16, [u8; 16]) {
     match k {
         0 => (bit_reversal(4), 2, REVERSED),
-        1 => (gray(4), 1, GRAY),
+        1 => (gray(4), 1, GRAYED),
         _ => (identity(4), 1, INPUT),
     }
 }
@@ -54,29 +50,11 @@ pub fn have_attached<R: Rack>(bays: &mut [R], shape: &Shape) -> bool
     true
 }
 
-/// Attaches the disks again.
-pub fn is_attached<R: Rack>(rack: &mut R, shape: &Shape) -> bool
-    ensures { IsTrue result → (R.view rack.new).attached ≡ Some (dims_of shape.now) }
-{
-    match rack.attach(&shape.dims()) {
-        Ok(Found::Ready) => true,
-        _ => false,
-    }
-}
-
 // The job of a permutation. Nothing where it is no job of the shape, or memory is refused.
 fn job_of(alloc: Global, shape: &Shape, map: &Affine, every: u64) -> Option<BatchJob>
     ensures { IfSome result (λ job. IsBatchJob shape.now job) }
 {
-    if map.a.n != shape.n() {
-        return None;
-    }
-    let Ok(plan) = factor(alloc, shape, map) else {
-        return None;
-    };
-    if !is_job(shape, map, plan.len(), every) {
-        return None;
-    }
+    let plan = plan_of(alloc, shape, map, every)?;
     Some(BatchJob {
         job: Job::Permute(*map),
         plan,

@@ -1,13 +1,13 @@
 //! Bays whose racks fail: they end alone.
 
-use crate::batches::{GRAY, Told, batch_on_disks, finished, is_attached};
+use crate::batches::{Told, batch_on_disks, finished};
 use bm_base::{RunReport, Shape};
 use bm_batch::BayState;
 use bm_job::RunError;
 use bm_memrack::MemRack;
 use bm_named::gray;
 use bm_rack::Rack;
-use run_helpers::{holds, ran, report};
+use run_helpers::{GRAYED, holds, is_attached, ran, report};
 use std::alloc::Global;
 use std::test::Fail;
 
@@ -29,14 +29,14 @@ fn gray_alone<R: Rack>(alloc: Global, rack: &mut R, shape: &Shape) -> Option<(Ru
         return None;
     }
     let report = ran(alloc, rack, shape, &gray(4), 2)?.ok()?;
-    Some((report, holds(alloc, rack, shape, 1, &GRAY)))
+    Some((report, holds(alloc, rack, shape, 1, &GRAYED)))
 }
 
-/// One device call of the second bay fails. The others are Finished, and a run of its own ends its job.
-///
-/// Calls 11 to 20 are those of its begin: a sync, three pages read and three written, a sync, the job's
-/// gate and a sync. Call 21 reads the body of its pass, and 22 to 29 are its row calls. A sync, its gate
-/// and a sync end the pass.
+// One device call of the second bay fails. The others are Finished, and a run of its own ends its job.
+//
+// Calls 11 to 20 are those of its begin: a sync, three pages read and three written, a sync, the job's
+// gate and a sync. Call 21 reads the body of its pass, and 22 to 29 are its row calls. A sync, its gate
+// and a sync end the pass.
 #[test]
 fn a_bay_that_fails(rt: HostRuntime) -> Result<(), Fail> {
     let shape = Shape::new(4, 1, 1, 3, 1).ok().ok_or("shape")?;

@@ -14,8 +14,8 @@ use bm_rack::Rack;
 use std::alloc::Global;
 use std::test::Fail;
 
-/// The bit reversal of two passes, the Gray code and the identity of one end with their records, their
-/// loads and the row calls of these, in any order of turns.
+// The bit reversal of two passes, the Gray code and the identity of one end with their records, their
+// loads and the row calls of these, in any order of turns.
 #[test]
 fn orders_of_turns(rt: HostRuntime) -> Result<(), Fail> {
     let shape = Shape::new(4, 1, 1, 3, 1).ok().ok_or("shape")?;
@@ -45,7 +45,7 @@ fn orders_of_turns(rt: HostRuntime) -> Result<(), Fail> {
     Ok(())
 }
 
-/// What a turn answers, and the loads that are then moved in each of three bays.
+// What a turn answers, and the loads that are then moved in each of three bays.
 type Told = (BayState, (u64, u64, u64));
 
 // The loads that are moved in each of three bays.
@@ -98,7 +98,7 @@ fn turns_alone<R: Rack>(
     turns_of(alloc, &mut batch, bays, &mut bufs, turns)
 }
 
-/// A turn moves one load of its own bay, and nothing where the bay is Finished.
+// A turn moves one load of its own bay, and nothing where the bay is Finished.
 #[test]
 fn turns_one_by_one(rt: HostRuntime) -> Result<(), Fail> {
     let shape = Shape::new(4, 1, 1, 3, 1).ok().ok_or("shape")?;

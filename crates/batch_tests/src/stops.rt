@@ -4,18 +4,18 @@ ghost use Rattle.std.specs.Prelude.{◌≡◌, Some};
 ghost use Rattle.std.specs.List.{All};
 ghost use Rattle.bm_base.specs.Shape.{dims_of};
 
-use crate::batches::{Told, batch_of, finished, have_attached, have_loaded, is_attached};
+use crate::batches::{Told, batch_of, finished, have_attached, have_loaded};
 use bm_base::Shape;
 use bm_batch::BayState;
 use bm_job::RunError;
 use bm_memrack::MemRack;
 use bm_named::bit_reversal;
 use bm_rack::StopRack;
-use run_helpers::{REVERSED, holds, ran};
+use run_helpers::{REVERSED, holds, is_attached, ran};
 use std::alloc::Global;
 use std::test::Fail;
 
-/// What a stop leaves of each unit that is not durable: what stands, or zeros.
+// What a stop leaves of each unit that is not durable: what stands, or zeros.
 const PICKS: [u64; 2] = [0, 0x5555_5555_5555_5555];
 
 // A stop of each bay, after so many device calls.
@@ -63,7 +63,7 @@ fn stopped_batch<R: StopRack>(
     Some(list)
 }
 
-/// A stop of both bays at each of their device calls, with both picks: the next batch ends both jobs.
+// A stop of both bays at each of their device calls, with both picks: the next batch ends both jobs.
 #[test]
 fn stops_of_two_bays(rt: HostRuntime) -> Result<(), Fail> {
     let shape = Shape::new(4, 1, 1, 3, 1).ok().ok_or("shape")?;
@@ -147,7 +147,7 @@ fn batch_then_alone<R: StopRack>(
     Some((told.first()?.state, done))
 }
 
-/// A run and a batch of one bay go on where the other was stopped, by the gates that stand.
+// A run and a batch of one bay go on where the other was stopped, by the gates that stand.
 #[test]
 fn runs_and_batches(rt: HostRuntime) -> Result<(), Fail> {
     let shape = Shape::new(4, 1, 1, 3, 1).ok().ok_or("shape")?;

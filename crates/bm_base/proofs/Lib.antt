@@ -4,3 +4,5 @@ pub mod RecordLemmas
 pub mod ButterflyLemmas
 pub mod EqualLemmas
 pub mod CaseLemmas
+pub mod AreaLemmas
+pub mod CountLemmas

@@ -30,11 +30,20 @@ pub const MOST_CHECKPOINT_PASSES: u16 = 254;
 /// The most bytes of a job text.
 pub const MOST_TEXT_BYTES: usize = 65536;
 
+/// The bytes that are asked for of a job source: one more than a job text has at most.
+pub const TEXT_ROOM: usize = MOST_TEXT_BYTES + 1;
+
 /// The pages of a slate.
 pub const SLATE_PAGES: u16 = 516;
 
 /// The bytes of a page.
 pub const PAGE_BYTES: usize = 512;
+
+/// The bytes of a slate.
+pub const SLATE_BYTES: usize = SLATE_PAGES as usize * PAGE_BYTES;
+
+/// The bytes of a number, in records of one number each.
+pub const NUMBER_BYTES: usize = 8;
 
 /// What stands for the number of a checkpoint's slot where no slot counts. The slots are 0 and 1.
 pub const NO_SLOT: u8 = 2;

@@ -120,6 +120,14 @@ impl Shape {
         (1usize << self.m) * usize::from(self.width)
     }
 
+    /// The bytes of a row: one block of each disk.
+    pub fn row_bytes(&self) -> usize
+        ensures bytes { result ≡ 2 ^ (self.now.b + self.now.d) * self.now.width }
+        ensures row { result ≡ (dims_of self.now).disks * (dims_of self.now).block }
+    {
+        (1usize << (self.b + self.d)) * usize::from(self.width)
+    }
+
     /// N/M: the memory loads of an area.
     pub fn loads(&self) -> u64
         ensures { result ≡ 2 ^ (self.now.n - self.now.m) }

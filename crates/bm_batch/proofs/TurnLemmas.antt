@@ -22,7 +22,7 @@ use Rattle.bm_job.specs.declared.answers.Turn.TheVariants as done
 use Rattle.bm_job.specs.Begins.{HasBodies}
 use Rattle.bm_job.specs.Follows.{Follows, loads_moved}
 use Rattle.bm_job.specs.Runs.{IsWorkUnit, loads_left, load_rows}
-use Rattle.bm_job.specs.Turns.{SameJob, IsNextOf, IsStopped, TurnAnswer, IsTurnUnit, IsBadBody, form_pages, durable_pages, durable_syncs}
+use Rattle.bm_job.specs.Turns.{SameJob, IsNextOf, IsHalted, TurnAnswer, IsTurnUnit, IsBadBody, form_pages, durable_pages, durable_syncs}
 use Rattle.bm_job.proofs.CallLemmas.{call_of, no_refusal}
 use Rattle.bm_job.proofs.EndLemmas.{done_records, same_input_records}
 use Rattle.bm_job.proofs.PaceLemmas.{load_left}
@@ -54,7 +54,7 @@ pub record TurnFacts (ts tc : Bool) (m next : Machine) (r : Result Turn RunError
   pub answer : TurnAnswer next r
   pub same : SameJob m next
   pub next_of : OnOk r (IsNextOf m next)
-  pub stopped : OnErr r (IsStopped m next)
+  pub stopped : OnErr r (IsHalted m next)
   pub moved : OnOk r (loads_moved next ≡ loads_moved m + 1)
   pub follows : IsTrue ts → IsTrue tc → Follows m old → OnOk r (Follows next new)
   pub sound : IsTrue ts → IsTrue tc → Follows m old → IsSound new
@@ -87,7 +87,7 @@ holds_err (Err f) e is holds = holds
 -- ---- loads
 
 -- a machine that was stopped has moved as many
-stopped_moved : (m next : Machine) → IsStopped m next → loads_moved next ≡ loads_moved m
+stopped_moved : (m next : Machine) → IsHalted m next → loads_moved next ≡ loads_moved m
 stopped_moved m next s = rw (s.done, s.same.shape, s.load) refl
 
 -- no fewer than before

@@ -12,11 +12,12 @@ use Rattle.bm_top.specs.declared.status.Status.TheVariants.{DataFault, DataShort
 use Rattle.bm_top.specs.declared.status.Status.TheVariants.{NotLoaded, OtherShape, OtherJob, NotDone, NoJob, BadPage, SinkFault, OutOfRange}
 use Rattle.bm_top.specs.declared.status.Status.TheVariants.{NotAffine, NotPermutation, BatchShape}
 use Rattle.bm_top.proofs.ExitLemmas.{SameDisks-refl, SameCalls-refl}
+use Rattle.bm_batch.specs.Batches.{view_at}
 use Rattle.bm_batch_call.specs.declared.words.BatchVerb.TheVariants.{Run}
 use Rattle.bm_batch_call.specs.Bays.{BayLeaves, BayAttached, AttachCause, AttachFails}
 use Rattle.bm_batch_call.specs.BatchCall.{PrepareCall}
 use Rattle.bm_batch_call.specs.Causes.{BatchCause}
-use Rattle.bm_batch_call.specs.Moment.{BatchDevices, Work, no_view, view_at, whole_size, part_of}
+use Rattle.bm_batch_call.specs.Moment.{BatchDevices, Work, no_view, whole_size, part_of}
 use Rattle.bm_batch_call.specs.Opening.{AttachCall, AttachRefusal}
 use Rattle.bm_batch_call.proofs.BayLemmas.{leaves_none, leaves_attached}
 use Rattle.bm_batch_call.proofs.ListLemmas.{ends_each}

@@ -9,18 +9,19 @@ use Rattle.bm_base.specs.Gate.{IsClosedGate}
 use Rattle.bm_base.specs.Shape.{dims_of, stripes}
 use Rattle.bm_forms.specs.declared.job.Job.{Job}
 use Rattle.bm_rack.specs.RackView.{RackView, IsWellFormed}
-use Rattle.bm_rack.specs.Frames.{Keeps, HasCause, RaisesCounts}
+use Rattle.bm_rack.specs.Frames.{SameDisks, Keeps, HasCause, RaisesCounts}
 use Rattle.bm_rack.specs.Image.{InEveryImage}
 use Rattle.bm_rack.proofs.FrameLemmas.{Keeps-refl, Keeps-trans, HasCause-later}
 use Rattle.bm_control.specs.Pages.{HasClosedLoad}
 use Rattle.bm_control.specs.Sound.{IsSound}
 use Rattle.bm_control.proofs.ImageLemmas.{settled_in_image, settled_clean, zeros_closed}
 use Rattle.bm_control.proofs.SoundLemmas.{sound_closed}
+use Rattle.bm_job.specs.Runs.{run_most}
 use Rattle.bm_disks.specs.declared.load_error.LoadError.{LoadError}
 use Rattle.bm_disks.specs.declared.load_error.LoadError.TheVariants as load
 use Rattle.bm_disks.specs.Loading.{AreGatesClosed, IsLoadShut}
 use Rattle.bm_top.specs.DiskStatus.{load_status}
-use Rattle.bm_top.specs.Disks.{SameDisks, NewDisks, SameOrNewDisks, DisksRefusal, AttachRefusal, disks_status}
+use Rattle.bm_top.specs.Disks.{NewDisks, SameOrNewDisks, DisksRefusal, AttachRefusal, disks_status}
 use Rattle.bm_top.specs.declared.disks.DisksError.{DisksError}
 use Rattle.bm_top.specs.declared.disks.DisksError.TheVariants as disks
 use Rattle.bm_top.specs.Exits.{AttachedFrom}
@@ -33,7 +34,7 @@ use Rattle.bm_top.proofs.ExitLemmas.{SameDisks-refl, SameCalls-refl}
 use Rattle.bm_top.proofs.SameDisksLemmas.{sound_kept, calls_kept}
 use Rattle.bm_batch_call.specs.declared.words.BatchVerb.{BatchVerb}
 use Rattle.bm_batch_call.specs.declared.words.BatchVerb.TheVariants.{Batch, Run}
-use Rattle.bm_batch_call.specs.Bays.{work_rows, most_rows, KeepsDisks, LoadsWhole, BayLeaves, BayShut, BayFilled, FillCause, FillRefusal}
+use Rattle.bm_batch_call.specs.Bays.{most_rows, KeepsDisks, LoadsWhole, BayLeaves, BayShut, BayFilled, FillCause, FillRefusal}
 use Rattle.bm_batch_call.specs.Bays.{BayAttached, AttachCause, AttachFails}
 use Rattle.bm_batch_call.specs.Filling.{DisksFilled}
 use Rattle.bm_batch_call.proofs.RowLemmas.{few_same, few_made, few_wider, few_both, load_within}
@@ -66,7 +67,7 @@ pub leaves_shut : (t : Tells) (s : Shape) (job : Job) (whole : Type 0) (bytes : 
 leaves_shut t s job whole bytes old new b = record {
   sound = b.sound;
   keeps = b.keeps;
-  moves = few_wider (stripes s) (most_rows Batch s job) old new (load_within (stripes s) (work_rows s job)) b.moves;
+  moves = few_wider (stripes s) (most_rows Batch s job) old new (load_within (stripes s) (run_most s job)) b.moves;
   disks = b.disks;
   opened = λ told input none dims image is i gate. absurd (b.shut told none dims image is i gate);
 }

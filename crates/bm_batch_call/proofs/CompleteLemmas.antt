@@ -12,11 +12,12 @@ use Rattle.bm_top.specs.declared.status.Status.TheVariants.{Done, OutOfMemory, U
 use Rattle.bm_top.specs.declared.status.Status.TheVariants.{DataFault, DataShort, DataLong, RackFault, NoDisks, WrongDims, Exists}
 use Rattle.bm_top.specs.declared.status.Status.TheVariants.{NotLoaded, OtherShape, OtherJob, NotDone, NoJob, BadPage, SinkFault, OutOfRange}
 use Rattle.bm_top.specs.declared.status.Status.TheVariants.{NotAffine, NotPermutation, BatchShape}
+use Rattle.bm_batch.specs.Batches.{view_at}
 use Rattle.bm_batch_call.specs.declared.words.BatchVerb.{BatchVerb}
 use Rattle.bm_batch_call.specs.declared.words.BatchVerb.TheVariants.{Batch, Run}
 use Rattle.bm_batch_call.specs.BatchCall.{IsCase, NoFaults}
 use Rattle.bm_batch_call.specs.Causes.{BatchCause, EndsIn}
-use Rattle.bm_batch_call.specs.Moment.{BatchDevices, Work, whole_size, view_at}
+use Rattle.bm_batch_call.specs.Moment.{BatchDevices, Work, whole_size}
 
 -- an input that fits ends in no part
 ends_nowhere : (t : Tells) (w : Work) (old new : BatchDevices) (got k : ℕ) → k < w.count → IsTrue t.input

@@ -15,9 +15,10 @@ use Rattle.bm_rack.proofs.SinkLemmas.{AppendsFront-part}
 use Rattle.bm_disks.specs.Dumping.{area_bytes}
 use Rattle.bm_disks.proofs.DumpLemmas.{loads_before}
 use Rattle.bm_top.specs.Moment.{SinkView}
+use Rattle.bm_batch.specs.Batches.{view_at}
 use Rattle.bm_batch_call.specs.Dumping.{IsLooked, IsDumped, last_areas, IsDumpedTo}
 use Rattle.bm_batch_call.specs.Lists.{UpTo}
-use Rattle.bm_batch_call.specs.Moment.{no_view, view_at}
+use Rattle.bm_batch_call.specs.Moment.{no_view}
 use Rattle.bm_batch_call.proofs.RowLemmas.{few_same}
 use Rattle.bm_batch_call.proofs.ListLemmas.{up_to_none, up_to_next, ends_at, ends_each, own_before}
 

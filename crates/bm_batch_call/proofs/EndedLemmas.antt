@@ -10,6 +10,7 @@ use Rattle.bm_job.specs.Runs.{SameContents}
 use Rattle.bm_batch.specs.declared.bay_slot.BaySlot.{BaySlot}
 use Rattle.bm_batch.specs.declared.bay_state.BayState.{BayState}
 use Rattle.bm_batch.specs.declared.bay_state.BayState.TheVariants.{Ended}
+use Rattle.bm_batch.specs.Batches.{view_at}
 use Rattle.bm_top.specs.Causes.{HasOtherShape, HasOtherJob}
 use Rattle.bm_top.specs.DiskStatus.{run_status}
 use Rattle.bm_top.specs.Moment.{SourceView, Tells}
@@ -22,7 +23,7 @@ use Rattle.bm_batch_call.specs.Bays.{RunRefusal, BayRan, BayReady}
 use Rattle.bm_batch_call.specs.BatchCall.{BatchCall, AreReady, LeavesMemory}
 use Rattle.bm_batch_call.specs.Causes.{BatchCause, IsEnded, IsMadeBefore, IsToldBy, HasWrongPage}
 use Rattle.bm_batch_call.specs.Dumping.{IsFirstEnded}
-use Rattle.bm_batch_call.specs.Moment.{BatchDevices, Work, view_at, part_of}
+use Rattle.bm_batch_call.specs.Moment.{BatchDevices, Work, part_of}
 use Rattle.bm_batch_call.specs.Output.{ReadsFew}
 use Rattle.bm_batch_call.specs.Running.{AllRan}
 use Rattle.bm_batch_call.proofs.MadeLemmas.{bay_made}

@@ -1,14 +1,9 @@
 -- Loops over a list of devices.
-use Rattle.std.proofs.Common.{◌≡◌, ◌≢◌, inl, inr, ℕ, ◌+◌, ◌<◌, List, [], ◌∷◌}
+use Rattle.std.proofs.Common.{◌≡◌, ◌≢◌, inl, inr, ℕ, ◌+◌, ◌<◌, List}
 use Rattle.std.proofs.Common.{length, map, slice_index_or, slice_set, refl, sym, ◌∙◌, ap, subst, subst₂, arith}
 use Rattle.std.proofs.lemmas.Bool.{cases_eq, cases_lt}
 use Rattle.std.proofs.lemmas.List.{get_or-map, get_or-set_same, get_or-set_other, length-set, map-set, length-map}
 use Rattle.bm_batch_call.specs.Lists.{UpTo, EndsAt}
-
--- an element of a list that has one
-pub element : {A : Type 0} (xs : List A) (k : ℕ) → k < length xs → A
-element [] k below = absurd (omega (arith, below))
-element (x ∷ xs) k below = x
 
 -- nothing is done yet
 pub up_to_none : {V : Type 0} (none : V) (P : ℕ → V → V → Type 0) (old : List V) → UpTo none P 0 old old

@@ -5,24 +5,25 @@ use Rattle.std.proofs.lemmas.Bool.{false≢true}
 use Rattle.std.proofs.lemmas.List.{drop_all}
 use Rattle.bm_base.specs.Count.{Rose}
 use Rattle.bm_base.specs.Shape.{input_size}
+use Rattle.bm_base.proofs.CountLemmas.{rose_earlier}
 use Rattle.bm_rack.specs.RackView.{RackView}
 use Rattle.bm_rack.specs.Frames.{HasCause}
 use Rattle.bm_rack.proofs.FrameLemmas.{HasCause-later}
 use Rattle.bm_disks.specs.Input.{IsRead}
 use Rattle.bm_disks.proofs.LoadLemmas.{input_whole, input_long, IsRead-later}
-use Rattle.bm_job.proofs.FaultLemmas.{rose_earlier}
 use Rattle.bm_top.specs.Moment.{Tells}
 use Rattle.bm_top.specs.Status.{IsOfInput}
 use Rattle.bm_top.specs.commands.Load.{LoadRefused}
 use Rattle.bm_top.specs.declared.status.Status.{Status}
 use Rattle.bm_top.specs.declared.status.Status.TheVariants.{Done, OutOfMemory, DataFault, DataLong, RackFault, SinkFault}
+use Rattle.bm_batch.specs.Batches.{view_at}
 use Rattle.bm_batch_call.specs.declared.words.BatchVerb.TheVariants.{Batch}
 use Rattle.bm_batch_call.specs.Bays.{BayLeaves, BayFilled}
 use Rattle.bm_batch_call.specs.BatchCall.{BatchCall, PrepareCall}
 use Rattle.bm_batch_call.specs.Causes.{BatchCause}
-use Rattle.bm_batch_call.specs.Filling.{IsFilled, IsFrom, FillsCall}
+use Rattle.bm_batch_call.specs.Filling.{HoldsItsPart, IsFrom, FillsCall}
 use Rattle.bm_batch_call.specs.Lists.{UpTo}
-use Rattle.bm_batch_call.specs.Moment.{BatchDevices, Work, no_view, view_at, whole_size, part_of}
+use Rattle.bm_batch_call.specs.Moment.{BatchDevices, Work, no_view, whole_size, part_of}
 use Rattle.bm_batch_call.specs.Opening.{OpensCall, IsOpened, IsNotOpened}
 use Rattle.bm_batch_call.specs.Output.{IsReadWhole}
 use Rattle.bm_batch_call.proofs.BayLemmas.{leaves_shut, filled_shut}
@@ -33,7 +34,7 @@ use Rattle.bm_batch_call.proofs.StoppedLemmas.{stopped}
 
 -- the input was asked for one byte more, and is refused
 pub end_stopped : (t : Tells) (w : Work) (old mid new : BatchDevices) (e : Status) → length old.bays ≡ w.count → new.out ≡ old.out
-    → new.bays ≡ mid.bays → UpTo no_view (IsFilled t w.shape old.input) (length old.bays) old.bays mid.bays
+    → new.bays ≡ mid.bays → UpTo no_view (HoldsItsPart t w.shape old.input) (length old.bays) old.bays mid.bays
     → BatchCause t Batch w old e new → e ≢ Done → e ≢ SinkFault → e ≢ OutOfMemory
     → (IsTrue t.input → IsRead (whole_size w + 1) old.input.left new.input.left) → old.input.faults ≤ new.input.faults
     → BatchCall t Batch w old e new
@@ -48,7 +49,7 @@ end_stopped t w old mid new e many out same filled cause not_done not_cut not_me
 
 -- the load gates were opened, or one was not
 pub opens_done : (t : Tells) (w : Work) (old mid new : BatchDevices) (r : Result (Unit {0}) Status) → length old.bays ≡ w.count
-    → new.out ≡ old.out → UpTo no_view (IsFilled t w.shape old.input) (length old.bays) old.bays mid.bays
+    → new.out ≡ old.out → UpTo no_view (HoldsItsPart t w.shape old.input) (length old.bays) old.bays mid.bays
     → (IsTrue t.input → IsReadWhole w old.input new.input) → old.input.faults ≤ new.input.faults
     → OpensCall t w.shape mid.bays r new.bays → PrepareCall t Batch w old r new
 opens_done t w old mid new (Ok x) many out filled whole faults o = record {

@@ -21,20 +21,21 @@ use Rattle.bm_job.specs.Runs.{load_rows}
 use Rattle.bm_job.proofs.HeldLemmas.{has_bits}
 use Rattle.bm_batch.specs.declared.bay_state.BayState.{BayState}
 use Rattle.bm_batch.specs.declared.bay_state.BayState.TheVariants.{Finished}
+use Rattle.bm_batch.specs.Batches.{view_at}
 use Rattle.bm_top.specs.Moment.{Tells}
 use Rattle.bm_top.proofs.SameDisksLemmas.{sound_kept}
 use Rattle.bm_batch_call.specs.declared.words.BatchVerb.{BatchVerb}
 use Rattle.bm_batch_call.specs.declared.words.BatchVerb.TheVariants.{Batch, Run}
-use Rattle.bm_batch_call.specs.Bays.{IsMade, BayRan, BayReady}
+use Rattle.bm_batch_call.specs.Bays.{IsJobDone, BayRan, BayReady}
 use Rattle.bm_batch_call.specs.Causes.{IsBayMade}
-use Rattle.bm_batch_call.specs.Moment.{BatchDevices, Work, view_at, part_of}
-use Rattle.bm_batch_call.specs.Output.{IsPart, HasMoved}
+use Rattle.bm_batch_call.specs.Moment.{BatchDevices, Work, part_of}
+use Rattle.bm_batch_call.specs.Output.{IsOutputPart, HasMoved}
 use Rattle.bm_batch_call.proofs.RowLemmas.{gone_none, whole_rows, rest_rows}
 
 -- of another list of the same records
 pub made_as : (s : Shape) (job : Job) (xs ys : ℕ → List ℕ) (passes : ℕ) (v : RackView) → SameRecords (2 ^ s.n) xs ys
-    → IsMade s job xs passes v
-    → IsMade s job ys passes v
+    → IsJobDone s job xs passes v
+    → IsJobDone s job ys passes v
 made_as s job xs ys passes v same m = record {
   records = λ x below. m.records x below ∙ meaning-same s.n job xs ys (has_bits s job m.body.fits.fits) same x below;
   input_is = λ x below. m.input_is x below ∙ same x below;
@@ -48,8 +49,8 @@ made_as s job xs ys passes v same m = record {
 }
 
 -- where nothing but counts changed
-pub made_looked : (s : Shape) (job : Job) (xs : ℕ → List ℕ) (passes : ℕ) (v u : RackView) → SameState v u → IsMade s job xs passes v
-    → IsMade s job xs passes u
+pub made_looked : (s : Shape) (job : Job) (xs : ℕ → List ℕ) (passes : ℕ) (v u : RackView) → SameState v u → IsJobDone s job xs passes v
+    → IsJobDone s job xs passes u
 made_looked s job xs passes v u same m = record {
   records = subst (λ (c : Contents). SameRecords (2 ^ s.n) (record_at c s (area_after passes)) (meaning s.n job xs)) (sym same.contents)
       m.records;
@@ -69,7 +70,7 @@ pub bay_made : (t : Tells) (verb : BatchVerb) (w : Work) (start : BatchDevices) 
 bay_made t Batch w start k passes state mid new r x fin = λ told input.
     made_as w.shape (w.job k) (input_of mid.contents w.shape) _ passes new (r.holds input told.1) (x.done told (r.sound told) fin)
 bay_made t Run w start k passes state mid new r x fin = λ told sound.
-    subst (λ (c : Contents). IsMade w.shape (w.job k) (input_of c w.shape) passes new) r.from.disks.contents
+    subst (λ (c : Contents). IsJobDone w.shape (w.job k) (input_of c w.shape) passes new) r.from.disks.contents
     (x.done told (sound_kept _ mid r.from.disks sound) fin)
 
 pub made_seen : (t : Tells) (verb : BatchVerb) (w : Work) (start : BatchDevices) (k passes : ℕ) (v u : RackView) → SameState v u
@@ -78,7 +79,7 @@ made_seen t Batch w start k passes v u same m = λ told input. made_looked w.sha
 made_seen t Run w start k passes v u same m = λ told sound. made_looked w.shape (w.job k) _ passes v u same (m told sound)
 
 pub part_made : (t : Tells) (verb : BatchVerb) (w : Work) (start : BatchDevices) (k passes : ℕ) (v : RackView)
-    → IsBayMade t verb w start k passes v → IsPart t verb w start k (area_bytes v.contents w.shape (area_after passes))
+    → IsBayMade t verb w start k passes v → IsOutputPart t verb w start k (area_bytes v.contents w.shape (area_after passes))
 part_made t Batch w start k passes v m = λ told input. bytes_of-same (2 ^ w.shape.n) _ _ (m told input).records
 part_made t Run w start k passes v m = λ told sound. bytes_of-same (2 ^ w.shape.n) _ _ (m told sound).records
 

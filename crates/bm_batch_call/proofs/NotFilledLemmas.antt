@@ -2,9 +2,9 @@
 use Rattle.std.proofs.Common.{◌≡◌, ℕ, ◌*◌, IsTrue, List, length, Some, None, sym, ◌∙◌, ap, subst, arith}
 use Rattle.bm_base.specs.declared.shape.Shape.{Shape}
 use Rattle.bm_base.specs.Shape.{input_size}
+use Rattle.bm_base.proofs.CountLemmas.{rose_earlier}
 use Rattle.bm_rack.specs.RackView.{RackView}
 use Rattle.bm_disks.specs.Input.{IsRead}
-use Rattle.bm_job.proofs.FaultLemmas.{rose_earlier}
 use Rattle.bm_top.specs.Moment.{Tells, TellsRack}
 use Rattle.bm_top.specs.commands.Load.{LoadRefused}
 use Rattle.bm_top.specs.declared.status.Status.{Status}
@@ -13,12 +13,13 @@ use Rattle.bm_top.specs.declared.status.Status.TheVariants.{DataFault, DataShort
 use Rattle.bm_top.specs.declared.status.Status.TheVariants.{NotLoaded, OtherShape, OtherJob, NotDone, NoJob, BadPage, SinkFault, OutOfRange}
 use Rattle.bm_top.specs.declared.status.Status.TheVariants.{NotAffine, NotPermutation, BatchShape}
 use Rattle.bm_top.proofs.CarryWholeLemmas.{none_stands}
+use Rattle.bm_batch.specs.Batches.{view_at}
 use Rattle.bm_batch_call.specs.declared.words.BatchVerb.TheVariants.{Batch}
 use Rattle.bm_batch_call.specs.Bays.{BayLeaves, BayFilled, FillCause, FillRefusal}
 use Rattle.bm_batch_call.specs.BatchCall.{BatchCall}
 use Rattle.bm_batch_call.specs.Causes.{BatchCause}
-use Rattle.bm_batch_call.specs.Filling.{IsFilled, FillsRefusal}
-use Rattle.bm_batch_call.specs.Moment.{BatchDevices, Work, no_view, view_at, whole_size, part_of}
+use Rattle.bm_batch_call.specs.Filling.{HoldsItsPart, FillsRefusal}
+use Rattle.bm_batch_call.specs.Moment.{BatchDevices, Work, no_view, whole_size, part_of}
 use Rattle.bm_batch_call.proofs.BayLemmas.{leaves_none, leaves_shut, filled_shut}
 use Rattle.bm_batch_call.proofs.ListLemmas.{ends_each}
 use Rattle.bm_batch_call.proofs.StoppedLemmas.{stopped}
@@ -99,14 +100,14 @@ pub fill_stopped : (t : Tells) (w : Work) (old new : BatchDevices) (e : Status) 
     → FillsRefusal t w.shape old.input old.bays e new.input new.bays → BatchCall t Batch w old e new
 fill_stopped t w old new e many out few r =
     stopped t Batch w old e new (fill_cause t w old new e r many why) (λ is. subst Why is why) (λ is. subst Why is why) out r.bays.count
-    (λ k below. ends_each no_view (IsFilled t w.shape old.input) (λ k was is. FillRefusal t w.shape r.here was e new.input is)
+    (λ k below. ends_each no_view (HoldsItsPart t w.shape old.input) (λ k was is. FillRefusal t w.shape r.here was e new.input is)
     (λ k was is. BayLeaves t Batch w.shape (w.job k) (length old.input.left ≡ whole_size w) (part_of w old.input.left k) was is) r.at
     old.bays new.bays
     r.bays
     (λ k a b early f. leaves_shut t w.shape (w.job k) _ _ a b (filled_shut t w.shape _ a b f))
     (λ a b f. leaves_shut t w.shape (w.job r.at) _ _ a b f.bay)
     (λ k a late. leaves_none t Batch w.shape (w.job k) _ _ a) k)
-    (λ of k below told. ends_each no_view (IsFilled t w.shape old.input) (λ k was is. FillRefusal t w.shape r.here was e new.input is)
+    (λ of k below told. ends_each no_view (HoldsItsPart t w.shape old.input) (λ k was is. FillRefusal t w.shape r.here was e new.input is)
     (λ k was is. was.stands ≡ None → LoadRefused is) r.at old.bays new.bays r.bays
     (λ k a b early f none. filled_refused t w.shape _ a b f told) (λ a b f none. f.refused of told)
     (λ k a late none. none_refused a none) k)

@@ -21,7 +21,7 @@ use Rattle.bm_job.specs.declared.answers.RunError.{RunError}
 use Rattle.bm_job.specs.declared.answers.RunError.TheVariants as run
 use Rattle.bm_job.specs.Begins.{BeginAnswer}
 use Rattle.bm_job.specs.Follows.{loads_moved}
-use Rattle.bm_job.specs.Runs.{load_rows}
+use Rattle.bm_job.specs.Runs.{load_rows, run_most}
 use Rattle.bm_job.specs.Turns.{IsTurnRefusal, SameJob}
 use Rattle.bm_job.proofs.EndLemmas.{begin_complete, end_most, turn_complete, same_input_records}
 use Rattle.bm_job.proofs.HeldLemmas.{has_bits}
@@ -30,14 +30,14 @@ use Rattle.bm_batch.specs.declared.bay_slot.BaySlot.{BaySlot}
 use Rattle.bm_batch.specs.declared.bay_state.BayState.TheVariants.{Going, Ended}
 use Rattle.bm_batch.specs.Bays.{JobDone, BayBegun, BayTurns, BayWent}
 use Rattle.bm_batch.proofs.BayLemmas.{going_or_not, finished_well, some_of, input_after, sound_after, done_after}
-use Rattle.bm_batch_call.specs.Bays.{work_rows, IsMade, RunRefusal, BayRan}
+use Rattle.bm_batch_call.specs.Bays.{IsJobDone, RunRefusal, BayRan}
 use Rattle.bm_batch_call.specs.Dumping.{passes_by}
 use Rattle.bm_top.specs.Moment.{Tells, TellsRack}
 use Rattle.bm_batch_call.proofs.RowLemmas.{few_same, few_raised, none_left}
 
 -- a job that is done, of the input at an earlier moment
 made_of : (s : Shape) (job : Job) (m : Machine) (first mid new : RackView) → m.shape ≡ s → m.job ≡ job → JobDone m mid new
-    → SameRecords (2 ^ s.n) (input_of mid.contents s) (input_of first.contents s) → IsMade s job (input_of first.contents s) m.passes new
+    → SameRecords (2 ^ s.n) (input_of mid.contents s) (input_of first.contents s) → IsJobDone s job (input_of first.contents s) m.passes new
 made_of s job m first mid new shape job_is d same = record {
   records = λ x below. records x below
       ∙ meaning-same s.n job (input_of mid.contents s) (input_of first.contents s) (has_bits s job body.fits.fits) same x below;
@@ -130,7 +130,7 @@ bay_ran t s job passes every before slot old mid new well begun turns over = eli
         done = λ told sound fin.
             let last = some_of slot.machine (slot.keeps.finished fin) in
             let same = went.same in
-            subst (λ (p : ℕ). IsMade s job (input_of old.contents s) p new) (sym (ap passes_by last.1))
+            subst (λ (p : ℕ). IsJobDone s job (input_of old.contents s) p new) (sym (ap passes_by last.1))
             (made_of s job last.0 old mid new
             (ap (λ (x : Machine). x.shape) (one_machine went.next last.0 (sym went.machine ∙ last.1)) ∙ same.shape ∙ fresh.shape)
             (ap (λ (x : Machine). x.job) (one_machine went.next last.0 (sym went.machine ∙ last.1)) ∙ same.job ∙ fresh.job_is)
@@ -145,7 +145,7 @@ bay_ran t s job passes every before slot old mid new well begun turns over = eli
         attached = went_attached _ _ _ _ _ _ went ∙ begun.call.frame.attached;
         keeps = Keeps-trans old mid new begun.call.keeps went.call.keeps;
         moves = (let few = end_most s job first.0 old mid new fresh begun.moves went.least went.most in
-            few_raised (work_rows s job) old new few.low few.high);
+            few_raised (run_most s job) old new few.low few.high);
         moved = λ told fin. record {
           gone = loads_moved first.0;
           is_gone = begun.gone told first.0 first.1;
@@ -174,7 +174,7 @@ bay_ran t s job passes every before slot old mid new well begun turns over = eli
         done = λ told sound fin.
             let last = some_of before.machine (before.keeps.finished fin) in
             let fresh = begun.fresh last.0 last.1 in
-            subst (λ (p : ℕ). IsMade s job (input_of old.contents s) p mid) (sym (ap passes_by last.1))
+            subst (λ (p : ℕ). IsJobDone s job (input_of old.contents s) p mid) (sym (ap passes_by last.1))
             (made_of s job last.0 old old mid fresh.shape fresh.job_is (begun.done told.0 told.1 sound fin last.0 last.1)
             (λ x below. refl));
         sound = λ told sound. begun.sound told.0 told.1 sound;
@@ -182,7 +182,7 @@ bay_ran t s job passes every before slot old mid new well begun turns over = eli
         stands = begun.call.frame.stands;
         attached = begun.call.frame.attached;
         keeps = begun.call.keeps;
-        moves = few_same (work_rows s job) old mid begun.moves;
+        moves = few_same (run_most s job) old mid begun.moves;
         moved = λ told fin.
             let last = some_of before.machine (before.keeps.finished fin) in
             let fresh = begun.fresh last.0 last.1 in

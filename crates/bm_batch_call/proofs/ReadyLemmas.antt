@@ -16,6 +16,7 @@ use Rattle.bm_rack.specs.Image.{SameInput}
 use Rattle.bm_rack.proofs.FrameLemmas.{Keeps-refl, Keeps-trans}
 use Rattle.bm_control.specs.PageCalls.{IsLoadPage}
 use Rattle.bm_control.specs.Sound.{IsSound}
+use Rattle.bm_job.specs.Runs.{run_most}
 use Rattle.bm_disks.specs.Loading.{HoldsInput}
 use Rattle.bm_disks.proofs.LoadingLemmas.{input_kept}
 use Rattle.bm_disks.proofs.OpensLemmas.{opens_new}
@@ -24,7 +25,7 @@ use Rattle.bm_top.proofs.CarryWholeLemmas.{whole_in_load, whole_loaded}
 use Rattle.bm_top.proofs.SameDisksLemmas.{sound_kept}
 use Rattle.bm_batch_call.specs.declared.words.BatchVerb.{BatchVerb}
 use Rattle.bm_batch_call.specs.declared.words.BatchVerb.TheVariants.{Batch, Run}
-use Rattle.bm_batch_call.specs.Bays.{RowsFew, work_rows, most_rows, BayLeaves, BayFilled, BayOpens, BayLoaded, BayReady, BayRan}
+use Rattle.bm_batch_call.specs.Bays.{RowsFew, most_rows, BayLeaves, BayFilled, BayOpens, BayLoaded, BayReady, BayRan}
 use Rattle.bm_batch_call.specs.BatchCall.{AreReady}
 use Rattle.bm_batch_call.specs.Causes.{HaveDisks}
 use Rattle.bm_batch_call.specs.Moment.{BatchDevices, Work, part_of, whole_size}
@@ -116,9 +117,9 @@ pub leaves_unopened : (t : Tells) (s : Shape) (job : Job) (whole : Type 0) (byte
 leaves_unopened t s job whole bytes old mid new f o size = record {
   sound = λ told sound. o.sound told f.attached (f.closed told.1);
   keeps = Keeps-trans old mid new f.keeps o.call.keeps;
-  moves = few_both (stripes s) (work_rows s job + stripes s) (most_rows Batch s job) old mid new
-      (load_and_rest (stripes s) (work_rows s job))
-      (few_made (stripes s) old mid f.moves f.rows) (few_same (work_rows s job + stripes s) mid new o.moves);
+  moves = few_both (stripes s) (run_most s job + stripes s) (most_rows Batch s job) old mid new
+      (load_and_rest (stripes s) (run_most s job))
+      (few_made (stripes s) old mid f.moves f.rows) (few_same (run_most s job + stripes s) mid new o.moves);
   disks = inr (record { stood = f.stood; stands = λ told. o.call.frame.stands ∙ f.stands told });
   opened = λ told input none dims image is i gate.
       let there = o.call.frame.stands ∙ f.stands told.0 in
@@ -138,7 +139,7 @@ pub record KeepsReady (t : Tells) (s : Shape) (job : Job) (mid new : RackView) :
   pub input : SameInput (dims_of s) mid new
   pub stands : new.stands ≡ mid.stands
   pub keeps : Keeps mid new
-  pub moves : RowsFew (work_rows s job + stripes s) mid new
+  pub moves : RowsFew (run_most s job + stripes s) mid new
 
 pub ready_kept : (t : Tells) (s : Shape) (job : Job) (v : RackView) → KeepsReady t s job v v
 ready_kept t s job v = record {
@@ -146,7 +147,7 @@ ready_kept t s job v = record {
   input = record { contents = λ u is. refl; dirty = λ u is clean. clean };
   stands = refl;
   keeps = Keeps-refl v;
-  moves = few_same (work_rows s job + stripes s) v v refl;
+  moves = few_same (run_most s job + stripes s) v v refl;
 }
 
 pub leaves_ready : (t : Tells) (verb : BatchVerb) (s : Shape) (job : Job) (whole : Type 0) (bytes : List ℕ) (old mid new : RackView)
@@ -155,8 +156,8 @@ pub leaves_ready : (t : Tells) (verb : BatchVerb) (s : Shape) (job : Job) (whole
 leaves_ready t Batch s job whole bytes old mid new r x size = record {
   sound = λ told sound. x.sound told (r.sound told);
   keeps = Keeps-trans old mid new r.keeps x.keeps;
-  moves = few_both (stripes s) (work_rows s job + stripes s) (most_rows Batch s job) old mid new
-      (load_and_rest (stripes s) (work_rows s job))
+  moves = few_both (stripes s) (run_most s job + stripes s) (most_rows Batch s job) old mid new
+      (load_and_rest (stripes s) (run_most s job))
       (few_made (stripes s) old mid r.moves r.rows) x.moves;
   disks = inr (record { stood = r.stood; stands = λ told. x.stands ∙ r.stands told });
   opened = λ told input none dims image is i gate. (
@@ -167,7 +168,7 @@ leaves_ready t Batch s job whole bytes old mid new r x size = record {
 leaves_ready t Run s job whole bytes old mid new r x size = record {
   sound = λ told sound. x.sound told (sound_kept old mid r.from.disks sound);
   keeps = Keeps-trans old mid new r.from.keeps x.keeps;
-  moves = few_both 0 (work_rows s job + stripes s) (work_rows s job + stripes s) old mid new (omega arith)
+  moves = few_both 0 (run_most s job + stripes s) (run_most s job + stripes s) old mid new (omega arith)
       (few_same 0 old mid r.from.calls.moves)
       x.moves;
   disks = record {
@@ -213,5 +214,5 @@ ran_kept t s job passes state mid new x = record {
   input = x.input;
   stands = x.stands;
   keeps = x.keeps;
-  moves = few_wider (work_rows s job) (work_rows s job + stripes s) mid new (work_within (stripes s) (work_rows s job)) x.moves;
+  moves = few_wider (run_most s job) (run_most s job + stripes s) mid new (work_within (stripes s) (run_most s job)) x.moves;
 }

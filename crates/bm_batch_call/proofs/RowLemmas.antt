@@ -3,12 +3,12 @@ use Rattle.std.proofs.Common.{◌≡◌, inl, inr, ℕ, ◌+◌, ◌-◌, ◌*�
 use Rattle.bm_base.specs.declared.shape.Shape.{Shape}
 use Rattle.bm_base.specs.Contents.{Contents}
 use Rattle.bm_base.specs.Count.{raised}
-use Rattle.bm_base.specs.Shape.{stripes, load_stripes, loads_of}
-use Rattle.bm_base.proofs.ShapeLemmas.{loads_rows}
+use Rattle.bm_base.specs.Shape.{stripes, loads_of}
 use Rattle.bm_rack.specs.RackView.{RackView}
 use Rattle.bm_control.specs.Pages.{HasClosedJob}
 use Rattle.bm_control.specs.Progress.{IsGone}
 use Rattle.bm_job.specs.Runs.{load_rows}
+use Rattle.bm_job.proofs.RunLemmas.{rows_of_passes}
 use Rattle.bm_batch_call.specs.Bays.{RowsFew}
 
 -- ---- few
@@ -42,13 +42,6 @@ pub work_within : (rows work : ℕ) → work ≤ work + rows
 work_within rows work = omega arith
 
 -- ---- counted
-
--- the row calls of whole passes
-rows_of_passes : (s : Shape) (p : ℕ) → load_rows s (p * loads_of s) ≡ 2 * stripes s * p
-rows_of_passes s p =
-    let one = loads_rows s in
-    let all : load_rows s (p * loads_of s) ≡ 2 * (loads_of s * load_stripes s) * p = omega arith in
-    all ∙ ap (λ (k : ℕ). 2 * k * p) one
 
 -- none where no load is left
 pub none_left : (s : Shape) (all moved : ℕ) → moved ≡ all → load_rows s (all - moved) ≡ 0

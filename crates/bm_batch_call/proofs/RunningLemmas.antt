@@ -4,15 +4,15 @@ use Rattle.std.proofs.lemmas.List.{length-map, get_or-map, get_or_default}
 use Rattle.bm_base.specs.declared.shape.Shape.{Shape}
 use Rattle.bm_forms.specs.declared.job.Job.{Job}
 use Rattle.bm_rack.specs.RackView.{RackView, IsWellFormed}
-use Rattle.bm_batch.specs.Batches.{BatchValue, BatchBegun, BatchTurns, IsNoneGoing, AreAllAttached}
+use Rattle.bm_batch.specs.Batches.{view_at, BatchValue, BatchBegun, BatchTurns, IsNoneGoing, AreAllAttached}
 use Rattle.bm_batch.specs.declared.batch_job.BatchJob.{BatchJob}
 use Rattle.bm_batch.specs.declared.bay_slot.BaySlot.{BaySlot}
+use Rattle.bm_batch.proofs.BatchLemmas.{element_of}
 use Rattle.bm_top.specs.Moment.{Tells}
 use Rattle.bm_batch_call.specs.Bays.{BayRan}
 use Rattle.bm_batch_call.specs.Dumping.{passes_at}
-use Rattle.bm_batch_call.specs.Moment.{Work, no_view, view_at}
-use Rattle.bm_batch_call.specs.Running.{AllRan, HasRun}
-use Rattle.bm_batch_call.proofs.ListLemmas.{element}
+use Rattle.bm_batch_call.specs.Moment.{Work, no_view}
+use Rattle.bm_batch_call.specs.Running.{AllRan, BaysRan}
 use Rattle.bm_batch_call.proofs.RanLemmas.{bay_ran}
 
 all_ran : (t : Tells) (w : Work) (jobs : List BatchJob) (b0 b : BatchValue) (mid a new : List RackView) (d : BaySlot)
@@ -22,7 +22,7 @@ all_ran : (t : Tells) (w : Work) (jobs : List BatchJob) (b0 b : BatchValue) (mid
     → AllRan t w (passes_at b.slots d) b.slots d mid new
 all_ran t w jobs b0 b mid a new d jobs_are many well begun turns over k below =
     let has : k < length jobs = omega (arith, below, many) in
-    let j = element jobs k has in
+    let j = element_of jobs k has in
     let count = begun.count in
     let more = turns.count in
     let here : k < length b0.slots = omega (arith, has, count) in
@@ -37,7 +37,7 @@ pub has_run : {A : Type 0} (view : A → RackView) (t : Tells) (w : Work) (s : S
     → ((y : A) → IsWellFormed t.stands t.contents (view y))
     → BatchBegun t.stands t.contents s jobs b0 (map view mid) (map view a)
     → BatchTurns t.stands t.contents b0 b (map view a) (map view new) → IsNoneGoing b.slots
-    → HasRun t w b.slots (map view mid) (map view new)
+    → BaysRan t w b.slots (map view mid) (map view new)
 has_run view t w s jobs b0 b mid a new shape count many jobs_are same well begun turns over = record {
   many = (let x = turns.count in let y = begun.count in omega (arith, x, y, many, count));
   count = length-map new view ∙ same ∙ sym (length-map mid view);
@@ -48,7 +48,7 @@ has_run view t w s jobs b0 b mid a new shape count many jobs_are same well begun
   where
     well_at : (k : ℕ) → k < length new → IsWellFormed t.stands t.contents (view_at (map view new) k)
     well_at k below =
-        let d = element new k below in
+        let d = element_of new k below in
         subst (IsWellFormed t.stands t.contents) (sym (get_or-map view new k d no_view below)) (well (slice_index_or new k d))
 
 -- the work of a list of jobs
@@ -63,11 +63,11 @@ pub list_attached : {A : Type 0} (view : A → RackView) (t : Tells) (s : Shape)
     → AreAllAttached s (map view mid) → AreAllAttached s (map view new)
 unfolding list_work
 list_attached view t s jobs b0 b mid a new some many same well begun turns over attached k below =
-    let j = element jobs 0 (omega (arith, some, many)) in
+    let j = element_of jobs 0 (omega (arith, some, many)) in
     let w = list_work s jobs j in
     let run = has_run view t w s jobs b0 b mid a new refl many many
     (λ i x low. ap (λ (y : BatchJob). y.job) (get_or_default jobs i x j low)) same well begun turns over in
     let first : k < length (map view mid) = (let c = run.count in omega (arith, below, c)) in
     let here : k < length jobs = (let l = length-map mid view in omega (arith, first, l, many)) in
-    let d = element b.slots k (let m = run.many in omega (arith, here, m)) in
+    let d = element_of b.slots k (let m = run.many in omega (arith, here, m)) in
     (run.ran d k here).attached ∙ attached k first

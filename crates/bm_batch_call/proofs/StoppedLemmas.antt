@@ -4,11 +4,12 @@ use Rattle.bm_top.specs.Moment.{SinkView, Tells}
 use Rattle.bm_top.specs.Status.{IsOfInput}
 use Rattle.bm_top.specs.declared.status.Status.{Status}
 use Rattle.bm_top.specs.declared.status.Status.TheVariants.{Done, OutOfMemory, SinkFault}
+use Rattle.bm_batch.specs.Batches.{view_at}
 use Rattle.bm_batch_call.specs.declared.words.BatchVerb.{BatchVerb}
 use Rattle.bm_batch_call.specs.Bays.{BayLeaves}
 use Rattle.bm_batch_call.specs.BatchCall.{BatchCall, LeavesShut, LeavesMemory}
 use Rattle.bm_batch_call.specs.Causes.{BatchCause}
-use Rattle.bm_batch_call.specs.Moment.{BatchDevices, Work, view_at, whole_size, part_of}
+use Rattle.bm_batch_call.specs.Moment.{BatchDevices, Work, whole_size, part_of}
 use Rattle.bm_batch_call.specs.Output.{ReadsFew}
 use Rattle.bm_batch_call.proofs.CompleteLemmas.{complete_of}
 

@@ -18,7 +18,8 @@ use Rattle.bm_batch_call.specs.Dumping.{passes_by, passes_at, AreFinished}
 use Rattle.bm_batch_call.specs.Lists.{UpTo, EndsAt}
 use Rattle.bm_batch_call.specs.Moment.{no_source, sources_of}
 use Rattle.bm_batch_call.specs.Texts.{TaskRead, AreRead}
-use Rattle.bm_batch_call.proofs.ListLemmas.{element, up_to_as, up_to_next, up_to_at, ends_at}
+use Rattle.bm_batch_call.proofs.ListLemmas.{up_to_as, up_to_next, up_to_at, ends_at}
+use Rattle.bm_batch.proofs.BatchLemmas.{element_of}
 
 abbrev pub TasksTo : Bool → List Task → ℕ → List SourceView → List SourceView → Type 0
 TasksTo told tasks at old new = UpTo no_source (λ k was is. (d : Task) → TaskRead told (slice_index_or tasks k d) was is) at old new
@@ -52,7 +53,7 @@ read_ends left faults told Q tasks at old xs x after len below u q =
     ends_at (λ y. source_of (left y) (faults y)) no_source (λ k was is. (task : Task) × TaskRead told task was is) Q at old xs x after below
     (up_to_as no_source (λ k was is. (d : Task) → TaskRead told (slice_index_or tasks k d) was is)
     (λ k was is. (task : Task) × TaskRead told task was is) at old (sources_of left faults xs)
-    (λ k a b early p. (let d = element tasks k (omega (arith, early, len)) in (slice_index_or tasks k d, p d))) u) q
+    (λ k a b early p. (let d = element_of tasks k (omega (arith, early, len)) in (slice_index_or tasks k d, p d))) u) q
 
 -- all are read
 pub read_all : (told : Bool) (tasks : List Task) (at count : ℕ) (old new : List SourceView) (d : Task) → at ≡ count → length old ≡ count

@@ -23,6 +23,7 @@ use Rattle.bm_base.specs.Shape.{dims_of}
 use Rattle.bm_rack.specs.RackView.{RackView}
 use Rattle.bm_batch.specs.Batches.{AreAllAttached}
 use Rattle.bm_batch.specs.declared.batch_job.BatchJob.{BatchJob}
+use Rattle.bm_batch.proofs.BatchLemmas.{element_of}
 use Rattle.bm_batch_call.specs.Bays.{BayReady}
 use Rattle.bm_batch_call.specs.BatchCall.{BatchCall, PrepareCall, TasksCall, VerbCall, BatchTop, LeavesMemory}
 use Rattle.bm_batch_call.specs.Causes.{BatchCause}
@@ -31,7 +32,6 @@ use Rattle.bm_batch_call.specs.Output.{ReadsFew}
 use Rattle.bm_batch_call.specs.Texts.{AreRead, AreRefused, IsAfterTexts, IsFirstOther, AreOfOneShape}
 use Rattle.bm_batch_call.specs.Words.{IsBatchWords, IsNoBatch, AreEnough, batch_word}
 use Rattle.bm_batch_call.proofs.BayLemmas.{leaves_none}
-use Rattle.bm_batch_call.proofs.ListLemmas.{element}
 use Rattle.bm_batch_call.proofs.RunningLemmas.{list_work}
 use Rattle.bm_batch_call.proofs.StoppedLemmas.{stopped}
 
@@ -204,7 +204,7 @@ pub tasks_read : (t : Tells) (verb : BatchVerb) (count : ℕ) (tasks items : Lis
     → ((e : Task) → TasksCall t verb (length tasks) (λ k. slice_index_or tasks k e) old.devices answer new.devices)
     → VerbCall t verb count old answer new
 tasks_read t verb count tasks items old answer new some many same read call =
-    let e = element items 0 (omega (arith, some, many)) in
+    let e = element_of items 0 (omega (arith, some, many)) in
     texts_read t verb count (λ k. slice_index_or items k e) old answer new (read e)
     (subst (λ (n : ℕ). TasksCall t verb n (λ k. slice_index_or items k e) old.devices answer new.devices) many
     (subst (λ (xs : List Task). TasksCall t verb (length xs) (λ k. slice_index_or xs k e) old.devices answer new.devices) same (call e)))
@@ -221,7 +221,7 @@ pub planned_attached : (verb : BatchVerb) (t : Tells) (s : Shape) (jobs : List B
     → ((w : Work) → w.shape ≡ s → w.count ≡ length jobs → PrepareCall t verb w old (Ok tt) mid) → AreAllAttached s mid.bays
 unfolding list_work
 planned_attached verb t s jobs old mid some many call k below =
-    let w = list_work s jobs (element jobs 0 some) in
+    let w = list_work s jobs (element_of jobs 0 some) in
     let ready = (call w refl refl).ready refl in
     ready_attached t verb s _ _ _ (ready.bays k (let c = ready.count in omega (arith, below, c, many)))
 

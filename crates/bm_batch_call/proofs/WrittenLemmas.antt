@@ -1,5 +1,5 @@
 -- A batch whose jobs are done, and written or not.
-use Rattle.std.proofs.Common.{Ok, Err, ◌≡◌, ◌≢◌, inr, ℕ, ◌+◌, ◌<◌, ◌++◌, Bool, List, length, Result, IsOk, refl, sym, ◌∙◌, ap, subst, arith}
+use Rattle.std.proofs.Common.{Ok, Err, ◌≡◌, ◌≢◌, inr, ℕ, ◌+◌, ◌<◌, ◌++◌, Bool, List, length, Result, refl, sym, ◌∙◌, ap, subst, arith}
 use Rattle.bm_base.specs.declared.shape.Shape.{Shape}
 use Rattle.bm_base.specs.Contents.{Contents, RackUnit, unit_at}
 use Rattle.bm_base.specs.Count.{Rose}
@@ -9,32 +9,29 @@ use Rattle.bm_forms.specs.declared.job.Job.{Job}
 use Rattle.bm_rack.specs.RackView.{RackView}
 use Rattle.bm_rack.specs.Sink.{AppendsFront}
 use Rattle.bm_rack.proofs.FrameLemmas.{Keeps-trans, HasCause-later}
+use Rattle.bm_job.specs.Runs.{run_most}
 use Rattle.bm_disks.specs.declared.dumping.DumpError.{DumpError}
 use Rattle.bm_disks.specs.declared.dumping.DumpError.TheVariants as dump
 use Rattle.bm_batch.specs.declared.bay_slot.BaySlot.{BaySlot}
 use Rattle.bm_batch.specs.declared.bay_state.BayState.{BayState}
-use Rattle.bm_top.specs.DiskStatus.{dump_status}
+use Rattle.bm_batch.specs.Batches.{view_at}
 use Rattle.bm_top.specs.Moment.{SourceView, SinkView, Tells}
 use Rattle.bm_top.specs.Status.{IsOfInput}
-use Rattle.bm_top.specs.declared.status.Status.{Status}
 use Rattle.bm_top.specs.declared.status.Status.TheVariants as status
+use Rattle.bm_top.proofs.DumpLemmas.{dump_answer, dumped_ok}
 use Rattle.bm_top.proofs.SameDisksLemmas.{sound_kept}
 use Rattle.bm_batch_call.specs.declared.words.BatchVerb.{BatchVerb}
-use Rattle.bm_batch_call.specs.Bays.{work_rows, BayRan}
+use Rattle.bm_batch_call.specs.Bays.{BayRan}
 use Rattle.bm_batch_call.specs.BatchCall.{BatchCall, AreReady}
 use Rattle.bm_batch_call.specs.Causes.{BatchCause, IsBayMade}
 use Rattle.bm_batch_call.specs.Dumping.{AreFinished, IsLooked, last_areas, DumpsCall}
-use Rattle.bm_batch_call.specs.Moment.{BatchDevices, Work, view_at}
+use Rattle.bm_batch_call.specs.Moment.{BatchDevices, Work}
 use Rattle.bm_batch_call.specs.Output.{ReadsFew, TakesInput, IsLate}
 use Rattle.bm_batch_call.specs.Running.{AllRan}
 use Rattle.bm_batch_call.proofs.CompleteLemmas.{complete_of}
 use Rattle.bm_batch_call.proofs.MadeLemmas.{bay_made, made_seen, part_made, made_rows}
 use Rattle.bm_batch_call.proofs.ReadyLemmas.{KeepsReady, leaves_ready, have_disks, reads_few, whole_part, ready_keeps}
 use Rattle.bm_batch_call.proofs.RowLemmas.{few_both}
-
-abbrev pub dump_answer : Result (Unit {0}) DumpError → Status
-dump_answer (Ok x) = status.Done
-dump_answer (Err e) = dump_status e
 
 -- what the dump keeps of a bay that ran
 looked_kept : (t : Tells) (s : Shape) (job : Job) (passes : ℕ) (state : BayState) (mid now new : RackView)
@@ -48,7 +45,7 @@ looked_kept t s job passes state mid now new x l = record {
   };
   stands = l.state.stands ∙ x.stands;
   keeps = Keeps-trans mid now new x.keeps l.keeps;
-  moves = few_both (work_rows s job) (stripes s) (work_rows s job + stripes s) mid now new (omega arith) x.moves l.moves;
+  moves = few_both (run_most s job) (stripes s) (run_most s job + stripes s) mid now new (omega arith) x.moves l.moves;
 }
 
 pub run_dumped : (t : Tells) (verb : BatchVerb) (w : Work) (passes : ℕ → ℕ) (slots : List BaySlot) (d : BaySlot)
@@ -66,7 +63,7 @@ run_dumped t verb w passes slots d result start mid now new r many out input cou
     passes = passes;
     rows = λ is k below. made_rows t verb w.shape (w.job k) _ (passes k) _ (view_at start.bays k) (view_at mid.bays k) (view_at now.bays k)
         (view_at new.bays k) (r.bays k below) (ran k below) (fin k d (omega (arith, below, many)))
-        (dumps.rows (is_ok result is) k (omega (arith, below, all)));
+        (dumps.rows (dumped_ok result is) k (omega (arith, below, all)));
     bays = λ k below. made_seen t verb w start k (passes k) (view_at now.bays k) (view_at new.bays k) (looked k below).state (made k below);
     parts = last_areas w.shape passes now.bays;
     means = λ k below. part_made t verb w start k (passes k) (view_at now.bays k) (made k below);
@@ -74,7 +71,7 @@ run_dumped t verb w passes slots d result start mid now new r many out input cou
         (λ (v : SinkView). AppendsFront v.taken new.out.taken (bytes_of w.count (last_areas w.shape passes now.bays)))
         (out ∙ r.out) (subst (λ (n : ℕ). AppendsFront now.out.taken new.out.taken (bytes_of n (last_areas w.shape passes now.bays))) all
         (dumps.front sink rack));
-    all = λ is sink rack. dumps.done sink rack (is_ok result is)
+    all = λ is sink rack. dumps.done sink rack (dumped_ok result is)
         ∙ ap (λ (n : ℕ). now.out.taken ++ bytes_of n (last_areas w.shape passes now.bays)) all
         ∙ ap (λ (v : SinkView). v.taken ++ bytes_of w.count (last_areas w.shape passes now.bays)) (out ∙ r.out);
   });
@@ -103,11 +100,6 @@ run_dumped t verb w passes slots d result start mid now new r many out input cou
     late (Ok x) = tt
     late (Err dump.Failed) = tt
     late (Err dump.SinkFault) = tt
-
-    is_ok : (x : Result (Unit {0}) DumpError) → dump_answer x ≡ status.Done → IsOk x
-    is_ok (Ok x) is = refl
-    is_ok (Err dump.Failed) is = absurd (cc)
-    is_ok (Err dump.SinkFault) is = absurd (cc)
 
     not_input : (x : Result (Unit {0}) DumpError) → ¬ IsOfInput (dump_answer x)
     not_input (Ok x) of = of

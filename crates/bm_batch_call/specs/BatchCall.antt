@@ -13,11 +13,12 @@ use Rattle.bm_top.specs.commands.Run.{NoSession}
 use Rattle.bm_top.specs.declared.task.Task.{Task}
 use Rattle.bm_top.specs.declared.status.Status.{Status}
 use Rattle.bm_top.specs.declared.status.Status.TheVariants.{OutOfMemory, Usage, BatchShape}
+use Rattle.bm_batch.specs.Batches.{view_at}
 use Rattle.bm_batch_call.specs.declared.words.BatchVerb.{BatchVerb}
 use Rattle.bm_batch_call.specs.declared.words.BatchVerb.TheVariants.{Batch, Run}
 use Rattle.bm_batch_call.specs.Bays.{BayLeaves, BayReady}
 use Rattle.bm_batch_call.specs.Causes.{BatchCause}
-use Rattle.bm_batch_call.specs.Moment.{BatchDevices, BatchMoment, Work, work_of, view_at, whole_size, part_of}
+use Rattle.bm_batch_call.specs.Moment.{BatchDevices, BatchMoment, Work, work_of, whole_size, part_of}
 use Rattle.bm_batch_call.specs.Output.{HasOutput, ReadsFew, TakesInput}
 use Rattle.bm_batch_call.specs.Texts.{AreRead, AreRefused, AreWell, IsAfterTexts, IsFirstOther, AreOfOneShape}
 use Rattle.bm_batch_call.specs.Words.{IsBatchWords, IsNoBatch}

@@ -8,7 +8,6 @@ use Rattle.bm_base.specs.Records.{record_at, SameRecords}
 use Rattle.bm_base.specs.Shape.{dims_of, stripes, loads_of, input_size}
 use Rattle.bm_forms.specs.declared.job.Job.{Job}
 use Rattle.bm_forms.specs.Job.{meaning}
-use Rattle.bm_forms.specs.PassLimit.{limit_of}
 use Rattle.bm_rack.specs.RackView.{RackView, IsClean}
 use Rattle.bm_rack.specs.Frames.{Keeps, HasCause, RackCall}
 use Rattle.bm_rack.specs.Image.{InEveryImage, SameInput}
@@ -21,7 +20,7 @@ use Rattle.bm_control.specs.State.{StateAnswer}
 use Rattle.bm_control.specs.declared.state.ControlError.TheVariants as control
 use Rattle.bm_job.specs.declared.answers.RunError.{RunError}
 use Rattle.bm_job.specs.declared.answers.RunError.TheVariants as run
-use Rattle.bm_job.specs.Runs.{IsRunnable, SameContents, load_rows}
+use Rattle.bm_job.specs.Runs.{IsRunnable, SameContents, load_rows, run_most}
 use Rattle.bm_batch.specs.Bays.{AreAllOpen}
 use Rattle.bm_batch.specs.declared.bay_state.BayState.{BayState}
 use Rattle.bm_batch.specs.declared.bay_state.BayState.TheVariants.{Going, Finished, Ended}
@@ -45,14 +44,10 @@ pub record RowsFew (rows : ℕ) (old new : RackView) : Type 0 where
   pub low : old.moves ≤ new.moves
   pub high : new.moves ≤ old.moves + rows
 
--- the row calls that the turns of a job never exceed: 2N/BD for each pass of the pass limit
-abbrev pub work_rows : Shape → Job → ℕ
-work_rows s job = 2 * stripes s * limit_of s job
-
--- those of a bay: N/BD more for the dump, and for `batch` as many for the load
+-- the row calls of a bay at most: those of a run, N/BD more for the dump, and for `batch` as many for the load
 abbrev pub most_rows : BatchVerb → Shape → Job → ℕ
-most_rows Batch s job = work_rows s job + 2 * stripes s
-most_rows Run s job = work_rows s job + stripes s
+most_rows Batch s job = run_most s job + 2 * stripes s
+most_rows Run s job = run_most s job + stripes s
 
 -- ---- at each exit
 
@@ -95,7 +90,7 @@ pub record BayLeaves (t : Tells) (verb : BatchVerb) (s : Shape) (job : Job) (who
 
 -- The records of the last pass's area are what the job makes of this input, which stands as it was. The control file tells it, with all
 -- gates open, and nothing is dirty.
-pub record IsMade (s : Shape) (job : Job) (input : ℕ → List ℕ) (passes : ℕ) (new : RackView) : Type 0 where
+pub record IsJobDone (s : Shape) (job : Job) (input : ℕ → List ℕ) (passes : ℕ) (new : RackView) : Type 0 where
   pub records : SameRecords (2 ^ s.n) (record_at new.contents s (area_after passes)) (meaning s.n job input)
   pub input_is : SameRecords (2 ^ s.n) (input_of new.contents s) input
   pub load_body : HasLoadBody s new.contents
@@ -225,13 +220,13 @@ pub record RanRows (s : Shape) (passes : ℕ) (old new : RackView) : Type 0 wher
 
 pub record BayRan (t : Tells) (s : Shape) (job : Job) (passes : ℕ) (state : BayState) (old new : RackView) : Type 0 where
   pub over : state ≢ Going
-  pub done : TellsRack t → IsSound old → state ≡ Finished → IsMade s job (input_of old.contents s) passes new
+  pub done : TellsRack t → IsSound old → state ≡ Finished → IsJobDone s job (input_of old.contents s) passes new
   pub sound : TellsRack t → IsSound old → IsSound new
   pub input : SameInput (dims_of s) old new
   pub stands : new.stands ≡ old.stands
   pub attached : new.attached ≡ old.attached
   pub keeps : Keeps old new
-  pub moves : RowsFew (work_rows s job) old new
+  pub moves : RowsFew (run_most s job) old new
   pub moved : IsTrue t.contents → state ≡ Finished → RanRows s passes old new
   pub failed : HasCause (state ≡ Ended run.Failed) old new
   pub refusal : IsTrue t.contents → (e : RunError) → state ≡ Ended e → RunRefusal s job old.contents e

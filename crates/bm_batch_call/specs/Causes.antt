@@ -17,11 +17,12 @@ use Rattle.bm_top.specs.Moment.{SourceView, Tells, TellsRack}
 use Rattle.bm_top.specs.declared.status.Status.{Status}
 use Rattle.bm_top.specs.declared.status.Status.TheVariants.{Done, OutOfMemory, DataFault, DataShort, DataLong, RackFault, NoDisks}
 use Rattle.bm_top.specs.declared.status.Status.TheVariants.{WrongDims, Exists, NotLoaded, OtherShape, OtherJob, BadPage, SinkFault}
+use Rattle.bm_batch.specs.Batches.{view_at}
 use Rattle.bm_batch_call.specs.declared.words.BatchVerb.{BatchVerb}
 use Rattle.bm_batch_call.specs.declared.words.BatchVerb.TheVariants.{Batch, Run}
-use Rattle.bm_batch_call.specs.Bays.{IsMade}
-use Rattle.bm_batch_call.specs.Lists.{IsFirst}
-use Rattle.bm_batch_call.specs.Moment.{BatchDevices, Work, view_at, whole_size, part_of}
+use Rattle.bm_batch_call.specs.Bays.{IsJobDone}
+use Rattle.bm_batch_call.specs.Lists.{FirstOf}
+use Rattle.bm_batch_call.specs.Moment.{BatchDevices, Work, whole_size, part_of}
 
 -- ---- bays
 
@@ -36,9 +37,9 @@ HaveDisks t verb w old = (k : ℕ) → k < w.count → GoesOn t verb w (view_at 
 -- the job of this bay is done, with its part of the input, or with the input that a sound bay holds
 abbrev pub IsBayMade : Tells → BatchVerb → Work → BatchDevices → ℕ → ℕ → RackView → Type 0
 IsBayMade t Batch w old k passes new =
-    TellsRack t → IsTrue t.input → IsMade w.shape (w.job k) (record_in w.shape (part_of w old.input.left k)) passes new
+    TellsRack t → IsTrue t.input → IsJobDone w.shape (w.job k) (record_in w.shape (part_of w old.input.left k)) passes new
 IsBayMade t Run w old k passes new =
-    TellsRack t → IsSound (view_at old.bays k) → IsMade w.shape (w.job k) (input_of (view_at old.bays k).contents w.shape) passes new
+    TellsRack t → IsSound (view_at old.bays k) → IsJobDone w.shape (w.job k) (input_of (view_at old.bays k).contents w.shape) passes new
 
 -- that of every bay before this one
 abbrev pub IsMadeBefore : Tells → BatchVerb → Work → BatchDevices → BatchDevices → ℕ → Type 0
@@ -54,7 +55,7 @@ IsToldBy t Run P = IsTrue t.contents → P
 -- done.
 pub record IsEnded (t : Tells) (verb : BatchVerb) (w : Work) (old new : BatchDevices) (P : RackView → ℕ → Type 0) : Type 0 where
   pub disks : HaveDisks t verb w old
-  pub first : IsFirst w.count (IsMadeBefore t verb w old new)
+  pub first : FirstOf w.count (IsMadeBefore t verb w old new)
       (λ k. IsToldBy t verb (P (view_at old.bays k) k × SameContents (view_at old.bays k) (view_at new.bays k)))
 
 -- this page of a control file is the first that is wrong, which never comes on a sound rack
@@ -76,7 +77,7 @@ EndsIn t w old new got k = EndsAfter t.input (input_size w.shape) (drop (k * inp
 -- the first bay whose disks could not be had so
 abbrev pub IsFirstOf : Tells → BatchVerb → Work → BatchDevices → (RackView → Type 0) → Type 0
 IsFirstOf t verb w old P =
-    IsFirst w.count (λ k. GoesOn t verb w (view_at old.bays k)) (λ k. IsTrue t.stands → P (view_at old.bays k))
+    FirstOf w.count (λ k. GoesOn t verb w (view_at old.bays k)) (λ k. IsTrue t.stands → P (view_at old.bays k))
 
 -- disks are missing, or others stand: of those just made, on racks alone that don't tell what stands
 abbrev pub LacksDisks : Tells → BatchVerb → Work → BatchDevices → (RackView → Type 0) → Type 0
@@ -96,7 +97,7 @@ abbrev pub BatchCause : Tells → BatchVerb → Work → BatchDevices → Status
 BatchCause t verb w old Done new = HaveDisks t verb w old
 BatchCause t verb w old OutOfMemory new = Unit {0}
 BatchCause t verb w old DataFault new = Makes verb × Rose old.input.faults new.input.faults
-BatchCause t verb w old (DataShort got) new = Makes verb × IsFirst w.count (λ k. Unit {0}) (EndsIn t w old.input new.input got)
+BatchCause t verb w old (DataShort got) new = Makes verb × FirstOf w.count (λ k. Unit {0}) (EndsIn t w old.input new.input got)
 BatchCause t verb w old DataLong new =
     Makes verb × HaveDisks t verb w old × GoesOnAfter t.input (whole_size w) old.input.left new.input.left
 BatchCause t verb w old RackFault new = HasFailed w old new

@@ -11,6 +11,7 @@ use Rattle.bm_rack.specs.Sink.{AppendsFront}
 use Rattle.bm_job.specs.declared.machine.Machine.{Machine}
 use Rattle.bm_batch.specs.declared.bay_slot.BaySlot.{BaySlot}
 use Rattle.bm_batch.specs.declared.bay_state.BayState.TheVariants.{Finished, Ended}
+use Rattle.bm_batch.specs.Batches.{view_at}
 use Rattle.bm_disks.specs.Dumping.{area_bytes}
 use Rattle.bm_disks.specs.declared.dumping.DumpError.{DumpError}
 use Rattle.bm_disks.specs.declared.dumping.DumpError.TheVariants as dump
@@ -18,7 +19,7 @@ use Rattle.bm_job.specs.declared.answers.RunError.{RunError}
 use Rattle.bm_top.specs.Moment.{SinkView}
 use Rattle.bm_batch_call.specs.Bays.{RowsFew}
 use Rattle.bm_batch_call.specs.Lists.{UpTo}
-use Rattle.bm_batch_call.specs.Moment.{no_view, view_at}
+use Rattle.bm_batch_call.specs.Moment.{no_view}
 
 -- the passes of a machine, none where there is none
 abbrev pub passes_by : Option Machine → ℕ

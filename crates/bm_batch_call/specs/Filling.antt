@@ -47,8 +47,8 @@ pub record IsFrom (ti : Bool) (s : Shape) (source : SourceView) (at : ℕ) (here
   pub faults : source.faults ≤ here.faults
 
 -- bay k holds its part
-abbrev pub IsFilled : Tells → Shape → SourceView → ℕ → RackView → RackView → Type 0
-IsFilled t s source k old new = BayFilled t s (drop (k * input_size s) source.left) old new
+abbrev pub HoldsItsPart : Tells → Shape → SourceView → ℕ → RackView → RackView → Type 0
+HoldsItsPart t s source k old new = BayFilled t s (drop (k * input_size s) source.left) old new
 
 -- one bay was not filled
 pub record FillsRefusal (t : Tells) (s : Shape) (source : SourceView) (old : List RackView) (e : Status) (rest : SourceView)
@@ -56,12 +56,12 @@ pub record FillsRefusal (t : Tells) (s : Shape) (source : SourceView) (old : Lis
   pub at : ℕ
   pub here : SourceView
   pub is_from : IsFrom t.input s source at here
-  pub bays : EndsAt no_view (IsFilled t s source) (λ k was is. FillRefusal t s here was e rest is) at old new
+  pub bays : EndsAt no_view (HoldsItsPart t s source) (λ k was is. FillRefusal t s here was e rest is) at old new
   pub faults : here.faults ≤ rest.faults
 
 pub record FillsCall (t : Tells) (s : Shape) (source : SourceView) (old : List RackView) (result : Result (Unit {0}) Status)
     (rest : SourceView) (new : List RackView) : Type 0 where
-  pub filled : IsOk result → UpTo no_view (IsFilled t s source) (length old) old new
+  pub filled : IsOk result → UpTo no_view (HoldsItsPart t s source) (length old) old new
   pub taken : IsOk result → IsFrom t.input s source (length old) rest
   pub few : IsTrue t.input → IsRead (length old * input_size s) source.left rest.left
   pub refused : IfErr result (λ e. FillsRefusal t s source old e rest new)

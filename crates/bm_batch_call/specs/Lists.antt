@@ -16,7 +16,7 @@ pub record EndsAt {V : Type 0} (none : V) (P Q : ℕ → V → V → Type 0) (at
   pub after : (k : ℕ) → at < k → slice_index_or new k none ≡ slice_index_or old k none
 
 -- the first of so many of which this holds, with what holds of those before it
-pub record IsFirst (count : ℕ) (Before Here : ℕ → Type 0) : Type 0 where
+pub record FirstOf (count : ℕ) (Before Here : ℕ → Type 0) : Type 0 where
   pub at : ℕ
   pub below : at < count
   pub here : Here at

@@ -42,9 +42,6 @@ no_view = untold_view None 0 0 0 0
 abbrev pub source_at : List SourceView → ℕ → SourceView
 source_at sources k = slice_index_or sources k no_source
 
-abbrev pub view_at : List RackView → ℕ → RackView
-view_at views k = slice_index_or views k no_view
-
 -- what is to be done: so many jobs of one shape
 pub record Work : Type 0 where
   pub shape : Shape

@@ -14,10 +14,11 @@ use Rattle.bm_job.specs.Runs.{load_rows}
 use Rattle.bm_top.specs.Moment.{SourceView, Tells, TellsRack}
 use Rattle.bm_top.specs.declared.status.Status.{Status}
 use Rattle.bm_top.specs.declared.status.Status.TheVariants.{Done, RackFault, SinkFault}
+use Rattle.bm_batch.specs.Batches.{view_at}
 use Rattle.bm_batch_call.specs.declared.words.BatchVerb.{BatchVerb}
 use Rattle.bm_batch_call.specs.declared.words.BatchVerb.TheVariants.{Batch, Run}
 use Rattle.bm_batch_call.specs.Causes.{HaveDisks, IsBayMade}
-use Rattle.bm_batch_call.specs.Moment.{BatchDevices, Work, view_at, whole_size, part_of, made_by}
+use Rattle.bm_batch_call.specs.Moment.{BatchDevices, Work, whole_size, part_of, made_by}
 
 -- ---- the input
 
@@ -39,10 +40,10 @@ ReadsFew t Run w old new = new ≡ old
 -- ---- the output
 
 -- these bytes are what job k makes of its part of the input, or of the input that a sound bay holds
-abbrev pub IsPart : Tells → BatchVerb → Work → BatchDevices → ℕ → List ℕ → Type 0
-IsPart t Batch w old k bytes =
+abbrev pub IsOutputPart : Tells → BatchVerb → Work → BatchDevices → ℕ → List ℕ → Type 0
+IsOutputPart t Batch w old k bytes =
     TellsRack t → IsTrue t.input → bytes ≡ made_by w k (record_in w.shape (part_of w old.input.left k))
-IsPart t Run w old k bytes =
+IsOutputPart t Run w old k bytes =
     TellsRack t → IsSound (view_at old.bays k) → bytes ≡ made_by w k (input_of (view_at old.bays k).contents w.shape)
 
 -- The row calls of a bay whose job is done and written. Of `batch` they are 2N/BD for each pass, and 2N/BD for the load and the dump; of
@@ -69,7 +70,7 @@ pub record IsWritten (t : Tells) (verb : BatchVerb) (w : Work) (old : BatchDevic
   pub bays : (k : ℕ) → k < w.count → IsBayMade t verb w old k (passes k) (view_at new.bays k)
   pub rows : answer ≡ Done → (k : ℕ) → k < w.count → HasMoved t verb w.shape (passes k) (view_at old.bays k) (view_at new.bays k)
   pub parts : ℕ → List ℕ
-  pub means : (k : ℕ) → k < w.count → IsPart t verb w old k (parts k)
+  pub means : (k : ℕ) → k < w.count → IsOutputPart t verb w old k (parts k)
   pub front : IsTrue t.out → IsTrue t.contents → AppendsFront old.out.taken new.out.taken (bytes_of w.count parts)
   pub all : answer ≡ Done → IsTrue t.out → IsTrue t.contents → new.out.taken ≡ old.out.taken ++ bytes_of w.count parts
 

@@ -12,10 +12,10 @@ use bm_batch::BatchJob;
 use bm_top::{Task, make_plan};
 use std::alloc::Global;
 
-/// How many turns are given by the seed, before rounds over all bays.
+// How many turns are given by the seed, before rounds over all bays.
 const SEED_TURNS: u64 = 256;
 
-/// 2^64 over the golden ratio: the factor of Fibonacci hashing.
+// 2^64 over the golden ratio: the factor of Fibonacci hashing.
 const SPREAD: u64 = 0x9E37_79B9_7F4A_7C15;
 
 // The job of one bay, with its plan.

@@ -9,7 +9,7 @@ ghost use Rattle.bm_batch.specs.declared.batch_job.BatchJob.{BatchJob};
 ghost use Rattle.bm_top.specs.Moment.{Tells, sink_of};
 ghost use Rattle.bm_batch_call.specs.BatchCall.{AreReady, BatchCall};
 ghost use Rattle.bm_batch_call.specs.Dumping.{AreFinished, IsFirstEnded};
-ghost use Rattle.bm_batch_call.specs.Running.{HasRun};
+ghost use Rattle.bm_batch_call.specs.Running.{BaysRan};
 ghost use Rattle.bm_batch_call.specs.Moment.{BatchDevices, Work};
 ghost use Rattle.bm_batch_call.specs.declared.words.BatchVerb.{BatchVerb};
 
@@ -54,7 +54,7 @@ fn finish_bays<Y: Rack, K: Sink>(
         → AreReady
         (record t { out = K.tells; stands = Y.tells_stands; contents = Y.tells_contents }) verb w start mid
         → sink_of (K.taken out.old) (K.faults out.old) ≡ mid.out → d.input ≡ mid.input
-        → HasRun (record t { out = K.tells; stands = Y.tells_stands; contents = Y.tells_contents })
+        → BaysRan (record t { out = K.tells; stands = Y.tells_stands; contents = Y.tells_contents })
         w batch.now.slots mid.bays (map Y.view bays.old)
         → BatchCall
         (record t { out = K.tells; stands = Y.tells_stands; contents = Y.tells_contents }) verb w start result

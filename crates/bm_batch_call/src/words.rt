@@ -4,9 +4,9 @@ ghost use Rattle.std.specs.Prelude.{◌≡◌, ◌≢◌, ℕ, IfSome, IfNone, l
 ghost use Rattle.bm_top.specs.Words.{texts_of};
 ghost use Rattle.bm_batch_call.specs.Words.{AreEnough, IsBatchWords, IsNoBatch, batch_word};
 
-use bm_top::number_of;
+use bm_top::word_number;
 
-/// The most bays of a batch.
+// The most bays of a batch.
 const MOST_BAYS: usize = 64;
 
 /// What a batch does first.
@@ -49,7 +49,7 @@ pub fn batch_of(words: &[String]) -> Option<BatchWords>
         return None;
     }
     let verb = verb_of(words[0].as_str())?;
-    let seed = number_of(words[1].as_str(), u64::MAX)?;
+    let seed = word_number(words[1].as_str(), u64::MAX)?;
     Some(BatchWords { verb, seed })
 }
 

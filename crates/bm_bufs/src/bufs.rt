@@ -11,13 +11,6 @@ use bm_base::{OutOfMemory, Shape};
 use std::alloc::Global;
 use std::marker::Model;
 
-// The bytes of a row: one block a disk.
-fn row_bytes(shape: &Shape) -> usize
-    ensures { result ≡ 2 ^ (shape.now.b + shape.now.d) * shape.now.width }
-{
-    (1usize << (shape.b() + shape.d())) * usize::from(shape.width())
-}
-
 /// A load list of one memory load and a row list of one block a disk.
 ///
 /// Both keep their lengths, and nothing after `new` takes memory.
@@ -57,7 +50,7 @@ impl Bufs {
     {
         Ok(Bufs {
             load: vec![in alloc; 0; shape.load_bytes()].map_err(|_| OutOfMemory)?,
-            row: vec![in alloc; 0; row_bytes(shape)].map_err(|_| OutOfMemory)?,
+            row: vec![in alloc; 0; shape.row_bytes()].map_err(|_| OutOfMemory)?,
         })
     }
 
@@ -65,7 +58,7 @@ impl Bufs {
     pub fn fits(&self, shape: &Shape) -> bool
         ensures { IsTrue result ↔ FitsShape shape.now self.now }
     {
-        self.load.len() == shape.load_bytes() && self.row.len() == row_bytes(shape)
+        self.load.len() == shape.load_bytes() && self.row.len() == shape.row_bytes()
     }
 
     /// The bytes of the load list.

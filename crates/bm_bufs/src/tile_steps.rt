@@ -5,10 +5,11 @@ ghost use Rattle.bm_gf2.specs.Matrix.{column};
 ghost use Rattle.bm_bufs.specs.TileMoves.{IsStepTable};
 
 use crate::tile_map::TileMap;
+use bm_base::MOST_ADDRESS_BITS;
 use bm_gf2::Matrix;
 
-// A place in the table for each number of trailing ones, 0 to 52.
-const STEPS: usize = 53;
+// A place in the table for each number of trailing ones.
+const STEPS: usize = MOST_ADDRESS_BITS as usize + 1;
 
 /// A tile map with tables of its steps.
 ///
@@ -39,7 +40,7 @@ pub fn step_table(a: &Matrix, first: u8, count: u8) -> [u64; STEPS]
 {
     let mut table = [0; STEPS];
     let mut sum = 0;
-    for t in 0..53u8 {
+    for t in 0..STEPS as u8 {
         if first + t < count {
             sum ^= a.cols[usize::from(first + t)];
         }

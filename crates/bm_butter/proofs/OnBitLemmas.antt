@@ -192,7 +192,3 @@ same_two p q = cc
 -- a number that was read from a record
 pub word_again : (v : ℕ) (bytes : List ℕ) → v ≡ word bytes → word (record_of v) ≡ word bytes
 word_again v bytes same = ap (λ (c : ℕ). word (record_of c)) same ∙ word_back (word bytes) (word_below bytes)
-
--- as it is read
-pub number_word : (v : ℕ) (bytes : List ℕ) → v < 2 ^ 64 → v ≡ number_in bytes → v ≡ word bytes
-number_word v bytes below same = omega arith

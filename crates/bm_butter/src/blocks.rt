@@ -7,7 +7,7 @@ ghost use Rattle.bm_butter.specs.Records.{record_in_order};
 
 use crate::in_place::sweep_in_order;
 use crate::kernels::Kernel;
-use crate::pair::RECORD_BYTES;
+use bm_base::NUMBER_BYTES;
 
 // The bits of the places in the largest block, of 512 KiB, and in the smallest one that is worth a
 // loop of its own.
@@ -38,7 +38,7 @@ fn transform_block<K: Kernel>(kernel: &K, buf: &mut [u8], bits: u8, block: usize
         → record_in_order buf.new x ≡ record_in_order buf.old x }
     ensures size { length buf.new ≡ length buf.old }
 {
-    let bytes = (1 << bits) * RECORD_BYTES;
+    let bytes = (1 << bits) * NUMBER_BYTES;
     let start = block * bytes;
     sweep_in_order(kernel, &mut buf[start..start + bytes], 0, bits);
 }
@@ -55,7 +55,7 @@ pub fn transform_blocks<K: Kernel>(kernel: &K, buf: &mut [u8], bits: u8)
     if bits == 0 {
         return;
     }
-    let count = buf.len() / RECORD_BYTES;
+    let count = buf.len() / NUMBER_BYTES;
     for block in 0..count >> bits {
         transform_block(kernel, buf, bits, block);
     }

@@ -10,7 +10,7 @@ use crate::blocks::{block_bits, transform_blocks};
 use crate::kernels::{Kernel, Signs};
 use crate::on_bit::{Halves, mix_bit};
 use crate::on_two_bits::{Corners, mix_two};
-use crate::pair::RECORD_BYTES;
+use bm_base::NUMBER_BYTES;
 
 // A kernel on one bit of the addresses.
 fn one_in_order<K: Kernel>(kernel: &K, buf: &mut [u8], i: u8)
@@ -20,7 +20,7 @@ fn one_in_order<K: Kernel>(kernel: &K, buf: &mut [u8], i: u8)
     ensures records { SameRecords (length buf.old / 8) (record_in_order buf.new)
         (kernel_on (K.meaning kernel.now) i (record_in_order buf.old)) }
 {
-    let count = buf.len() / RECORD_BYTES;
+    let count = buf.len() / NUMBER_BYTES;
     mix_bit(kernel, buf, &Halves::of(i, 0), 0, count >> (i + 1));
 }
 
@@ -33,7 +33,7 @@ fn two_in_order<K: Kernel>(kernel: &K, buf: &mut [u8], i: u8)
         (kernel_on (K.meaning kernel.now) (i + 1)
         (kernel_on (K.meaning kernel.now) i (record_in_order buf.old))) }
 {
-    let count = buf.len() / RECORD_BYTES;
+    let count = buf.len() / NUMBER_BYTES;
     let corners = Corners::of(Halves::of(i, 0), Halves::of(i + 1, 0));
     mix_two(kernel, buf, &corners, count >> (i + 2));
 }

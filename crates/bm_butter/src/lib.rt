@@ -20,4 +20,4 @@ pub use in_place::butterflies;
 pub use kernels::{Differences, Kernel, Signs, Sums, Xors};
 pub use lone::lone_bit;
 pub use low_bits::{butterflies_at, lowest_at};
-pub use pair::{number_at, set_number};
+pub use pair::set_number;

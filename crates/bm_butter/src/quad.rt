@@ -5,7 +5,8 @@ ghost use Rattle.bm_butter.specs.Records.{record_in_order};
 ghost use Rattle.bm_butter.specs.Groups.{pick, AreApart, IsGroup};
 
 use crate::kernels::Kernel;
-use crate::pair::{number_at, set_number};
+use crate::pair::set_number;
+use bm_base::number_at;
 
 /// Takes a group through a kernel on both bits: records p and q are a pair of the first bit, as r
 /// and s are, and records p and r are a pair of the second, as q and s are.

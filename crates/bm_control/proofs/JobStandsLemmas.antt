@@ -20,7 +20,7 @@ use Rattle.bm_base.specs.Shape.{loads_of}
 use Rattle.bm_control.specs.Bodies.{IsJobBody, IsPassBody, IsPartBody}
 use Rattle.bm_control.specs.Pages.{load_body, load_gate, job_body, job_gate, pass_body, pass_gate, slot_body, slot_gate, HasOpenJob}
 use Rattle.bm_control.specs.Pages.{HasLoadBody}
-use Rattle.bm_control.specs.Consistent.{input_of, GatesAre, LoadsMoved, SlotStands, JobStands}
+use Rattle.bm_control.specs.Consistent.{input_of, GatesAre, HoldsFirstLoads, SlotStands, JobStands}
 use Rattle.bm_control.specs.Consistent.{IsConsistent}
 use Rattle.bm_control.proofs.ImageLemmas.{DiffersIn}
 use Rattle.bm_control.proofs.JobBodyLemmas.{limit-most}
@@ -53,7 +53,8 @@ slot_kept P s a b forms done slot d other t = record {
   body = subst (λ (p : List ℕ). IsPartBody s p t.pass t.loads) (sym (d.pages (slot_body slot) other)) t.body;
   known = t.known;
   soon = t.soon;
-  moved = λ now form is. subst₂ (λ (target input : ℕ → List ℕ). LoadsMoved s form t.loads target (all_passed (take t.pass forms) input))
+  moved = λ now form is. subst₂
+      (λ (target input : ℕ → List ℕ). HoldsFirstLoads s form t.loads target (all_passed (take t.pass forms) input))
       (sym (recs_same P s (area_after t.pass) a b d)) (sym (recs_same P s Input a b d)) (t.moved now form is);
 }
 

@@ -14,7 +14,7 @@ use Rattle.bm_rack.specs.Frames.{DirtiesOnly}
 use Rattle.bm_rack.specs.Calls.{IsPage}
 use Rattle.bm_forms.specs.Plan.{all_passed}
 use Rattle.bm_control.specs.Bodies.{load_page, PartBodyFits, part_page}
-use Rattle.bm_control.specs.Consistent.{input_of, GatesAre, LoadsMoved, JobStands, IsConsistent}
+use Rattle.bm_control.specs.Consistent.{input_of, GatesAre, HoldsFirstLoads, JobStands, IsConsistent}
 use Rattle.bm_control.specs.Moments.{PassIsDone, PartIsMoved}
 use Rattle.bm_control.specs.Pages.{load_gate, job_gate, load_body, pass_gate, slot_body, slot_gate}
 use Rattle.bm_control.specs.Sound.{IsSound}
@@ -185,7 +185,7 @@ sound_marking slot pass loads s first second old new dims below fits stands size
       known = p.known;
       soon = (let now = p.now in omega (arith, now));
       moved = λ now form is. subst₂
-          (λ (target input : ℕ → List ℕ). LoadsMoved s form loads target (all_passed (take pass p.job.forms) input))
+          (λ (target input : ℕ → List ℕ). HoldsFirstLoads s form loads target (all_passed (take pass p.job.forms) input))
           (sym (recs_same (InSlot slot) s (area_after pass) first.contents image all))
           (sym (recs_same (InSlot slot) s Input first.contents image all)) (p.moved form is);
     }))))

@@ -33,8 +33,8 @@ abbrev pub BodiesAre : Shape → Contents → List PassForm → Type 0
 BodiesAre s v forms = (k : ℕ) (pass : PassForm) → slice_get forms k ≡ Some pass → IsPassBody s k (page_at v (pass_body k)) pass
 
 -- the records of the first `loads` loads that this pass reads stand in the target where its map takes them
-abbrev pub LoadsMoved : Shape → PassForm → ℕ → (ℕ → List ℕ) → (ℕ → List ℕ) → Type 0
-LoadsMoved s pass loads target wanted =
+abbrev pub HoldsFirstLoads : Shape → PassForm → ℕ → (ℕ → List ℕ) → (ℕ → List ℕ) → Type 0
+HoldsFirstLoads s pass loads target wanted =
     (x : ℕ) → x < loads * 2 ^ s.m → target (affine_image pass.map.map x) ≡ wanted (affine_image pass.map.map x)
 
 -- An open slot tells the truth: its body names a pass, no later than the one under way, and, where it is that one, a number of loads whose
@@ -46,7 +46,7 @@ pub record SlotStands (s : Shape) (v : Contents) (forms : List PassForm) (done s
   pub known : pass ≤ length forms
   pub soon : pass ≤ done + 1
   pub moved : pass ≡ done + 1 → (form : PassForm) → slice_get forms done ≡ Some form
-      → LoadsMoved s form loads (record_at v s (area_after pass)) (all_passed (take pass forms) (input_of v s))
+      → HoldsFirstLoads s form loads (record_at v s (area_after pass)) (all_passed (take pass forms) (input_of v s))
 
 -- An open job of these contents.
 pub record JobStands (s : Shape) (v : Contents) : Type 0 where

@@ -10,7 +10,7 @@ use Rattle.bm_forms.specs.declared.pass_form.PassForm.{PassForm}
 use Rattle.bm_forms.specs.Plan.{all_passed}
 use Rattle.bm_base.specs.Shape.{loads_of}
 use Rattle.bm_control.specs.Bodies.{IsPassBody}
-use Rattle.bm_control.specs.Consistent.{JobStands, LoadsMoved, BodiesAre, input_of}
+use Rattle.bm_control.specs.Consistent.{JobStands, HoldsFirstLoads, BodiesAre, input_of}
 use Rattle.bm_control.specs.Pages.{pass_body, pass_gate, slot_gate, HasOpenJob, HasLoadBody, HasJobBody, IsZeroPage}
 
 -- A job is open in these contents, and all records of pass k + 1, which is the one under way, are where they are to be.
@@ -33,7 +33,7 @@ pub record PartIsMoved (s : Shape) (v : Contents) (pass loads : ℕ) : Type 0 wh
   pub now : pass ≡ job.done + 1
   pub known : pass ≤ length job.forms
   pub moved : (form : PassForm) → slice_get job.forms job.done ≡ Some form
-      → LoadsMoved s form loads (record_at v s (area_after pass)) (all_passed (take pass job.forms) (input_of v s))
+      → HoldsFirstLoads s form loads (record_at v s (area_after pass)) (all_passed (take pass job.forms) (input_of v s))
 
 -- the page is clean
 abbrev pub IsCleanPage : ℕ → RackView → Type 0

@@ -18,10 +18,10 @@ pub record Counts (s : Shape) (v : Contents) (done slot loads : ℕ) : Type 0 wh
   pub body : IsPartBody s (page_at v (slot_body slot)) (done + 1) loads
 
 -- Of the two slots this one is counted, with this number of loads: it counts, and no slot counts with more. Slot 0 is counted where both
--- count with one number. Where none counts, or the job has no slots, the number is 0 and the slot is 2.
+-- count with one number. Where none counts, or the job has no slots, the number is 0 and the slot is `no_slot`.
 pub record IsCounted (s : Shape) (v : Contents) (every done part slot : ℕ) : Type 0 where
   pub none : every ≡ loads_of s → slot ≡ no_slot
-  pub range : slot ≤ 2
+  pub range : slot ≤ no_slot
   pub nothing : slot ≡ no_slot → part ≡ 0
   pub counts : slot < 2 → Counts s v done slot part
   pub most : every < loads_of s → (other loads : ℕ) → other < 2 → Counts s v done other loads → (slot < 2) × (loads ≤ part)

@@ -162,7 +162,7 @@ ProgressAnswer s v passes every (Err (BadPage page)) = IsBadProgress s v passes 
 
 -- which of two slots is counted, by what was found of them: the one with more loads, and the first where both have one number
 pub record CountedOf (first second : Option ℕ) (part slot : ℕ) : Type 0 where
-  pub range : slot ≤ 2
+  pub range : slot ≤ no_slot
   pub none : slot ≡ no_slot → (first ≡ None) × (second ≡ None) × (part ≡ 0)
   pub zero : slot ≡ 0 → (first ≡ Some part) × ((loads : ℕ) → second ≡ Some loads → loads ≤ part)
   pub one : slot ≡ 1 → (second ≡ Some part) × ((loads : ℕ) → first ≡ Some loads → loads < part)
@@ -179,10 +179,10 @@ pub record CountFits (s : Shape) (passes done loads : ℕ) : Type 0 where
   pub loads_few : loads < loads_of s
   pub under_way : done < passes
 
--- The counted slot and its loads keep their ranges: where no slot is counted the slot is 2 and the loads are 0, and a job without slots
--- counts none.
+-- The counted slot and its loads keep their ranges: where no slot is counted the slot is `no_slot` and the loads are 0, and a job without
+-- slots counts none.
 pub record PartFits (s : Shape) (passes done every part slot : ℕ) : Type 0 where
-  pub range : slot ≤ 2
+  pub range : slot ≤ no_slot
   pub nothing : slot ≡ no_slot → part ≡ 0
   pub counts : slot < 2 → CountFits s passes done part
   pub parts : slot < 2 → every < loads_of s

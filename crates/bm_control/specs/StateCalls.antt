@@ -1,5 +1,5 @@
 -- How many pages are read of the control file.
-use Rattle.std.specs.Prelude.{Ok, Err, ◌≡◌, ◌⊎◌, ℕ, ◌+◌, ◌*◌, ◌<◌, Result}
+use Rattle.std.specs.Prelude.{Ok, Err, ◌≡◌, ◌⊎◌, ℕ, ◌+◌, ◌-◌, ◌*◌, ◌<◌, Result}
 use Rattle.bm_base.specs.declared.shape.Shape.{Shape}
 use Rattle.bm_base.specs.Contents.{Contents, page_at}
 use Rattle.bm_base.specs.Gate.{IsOpenGate, IsClosedGate}
@@ -17,13 +17,14 @@ use Rattle.bm_control.specs.PageCalls.{ReadsPages}
 abbrev pub SlotReads : Contents → ℕ → ℕ → Type 0
 SlotReads v slot n = (IsOpenGate (page_at v (slot_gate slot)) × (n ≡ 2)) ⊎ (IsClosedGate (page_at v (slot_gate slot)) × (n ≡ 1))
 
--- of an open job: its body, two pages a pass, and, where it has slots, a page or two for each
+-- of an open job: its body, two pages a pass, and, where it has slots, a page or two for each; where it is refused no more than the 516
+-- pages without the three that are read before
 abbrev pub JobCalls : Result SlateState ControlError → RackView → RackView → Type 0
 JobCalls (Ok Closed) old new = ⊥
 JobCalls (Ok (Loaded s)) old new = ⊥
 JobCalls (Ok (Working s job passes done every part slot)) old new =
     ReadsPages (1 + 2 * passes) (5 + 2 * passes) old new × (every ≡ loads_of s → RaisesCounts 0 (1 + 2 * passes) 0 old new)
-JobCalls (Err e) old new = ReadsPages 0 513 old new
+JobCalls (Err e) old new = ReadsPages 0 (516 - 3) old new
 
 -- of the whole file
 abbrev pub StateCalls : Result SlateState ControlError → RackView → RackView → Type 0

@@ -14,28 +14,28 @@ use bm_base::{PAGE_BYTES, Shape};
 use bm_forms::{Job, pass_limit};
 use bm_rank::kernel_least;
 
-/// The version of a job whose progress is made durable after whole passes alone.
+// The version of a job whose progress is made durable after whole passes alone.
 const WHOLE_PASSES: u16 = 1;
 
-/// The version of a job whose progress is made durable after fewer loads, which its body names.
+// The version of a job whose progress is made durable after fewer loads, which its body names.
 const PARTS_OF_PASSES: u16 = 2;
 
-/// Where the version stands.
+// Where the version stands.
 const VERSION_AT: usize = 8;
 
-/// Where the kind stands.
+// Where the kind stands.
 const KIND_AT: usize = 10;
 
-/// Where the number of passes stands.
+// Where the number of passes stands.
 const PASSES_AT: usize = 12;
 
-/// Where the number of loads stands.
+// Where the number of loads stands.
 const LOADS_AT: usize = 504;
 
-/// The kind of a permutation.
+// The kind of a permutation.
 const PERMUTE: u8 = 1;
 
-/// The kind of the transform.
+// The kind of the transform.
 const WALSH: u8 = 2;
 
 /// The job body's page. `every` is the number of loads of a pass after which progress is made

@@ -8,7 +8,7 @@ use crate::page_reader::{same_page, u16_at};
 use crate::page_writer::PageWriter;
 use bm_base::{PAGE_BYTES, Shape};
 
-/// The load body's version.
+// The load body's version.
 const VERSION: u16 = 1;
 
 /// The load body of a shape.

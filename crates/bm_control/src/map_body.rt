@@ -11,16 +11,16 @@ use crate::page_writer::PageWriter;
 use bm_base::PAGE_BYTES;
 use bm_gf2::{Affine, MOST_COLUMNS, Matrix, no_columns};
 
-/// Where the map's constant stands.
+// Where the map's constant stands.
 const CONSTANT_AT: usize = 16;
 
-/// Where the map's columns begin.
+// Where the map's columns begin.
 const COLUMNS_AT: usize = 24;
 
-/// The bytes of a column.
+// The bytes of a column.
 const COLUMN_BYTES: usize = 8;
 
-/// Where the last number stands.
+// Where the last number stands.
 const LAST_AT: usize = 504;
 
 /// The first 16 bytes: a text, the version, two numbers of one byte, and one of two bytes.

@@ -7,7 +7,7 @@ use crate::page_reader::{same_page, u16_at, u64_at};
 use crate::page_writer::PageWriter;
 use bm_base::{MOST_CHECKPOINT_PASSES, PAGE_BYTES, Shape};
 
-/// The part body's version.
+// The part body's version.
 const VERSION: u16 = 2;
 
 /// The part body of so many loads of this pass, counted from 1. The pass is at most 254, and the

@@ -11,7 +11,7 @@ use crate::page_reader::same_page;
 use bm_base::{MOST_PASSES, PAGE_BYTES, Shape};
 use bm_forms::{MldForm, PassForm};
 
-/// The pass body's version.
+// The pass body's version.
 const VERSION: u16 = 1;
 
 /// The body of pass k + 1, for k below 256.

@@ -8,20 +8,8 @@ ghost use Rattle.bm_detect.specs.Scan.{IsScan, Knows, Scanned};
 
 use crate::detect_error::DetectError;
 use crate::scan_state::{Difference, Scan};
+use bm_base::number_at;
 use bm_gf2::{Affine, Matrix, no_columns};
-use byteorder::{ByteOrder, LittleEndian};
-
-// The bytes of a number.
-const NUMBER_BYTES: usize = 8;
-
-// The number in record i of records of 8 bytes.
-fn number_at(bytes: &[u8], i: usize) -> u64
-    requires { (i + 1) * 8 ≤ length bytes.now }
-    ensures { result ≡ number_in (slice_chunk bytes.now 8 i) }
-{
-    let at = i * NUMBER_BYTES;
-    LittleEndian::read_u64(&bytes[at..at + NUMBER_BYTES])
-}
 
 /// A scan of a list of 2^n numbers that has seen none.
 pub fn start_scan(n: u8) -> Scan

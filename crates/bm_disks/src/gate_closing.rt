@@ -12,14 +12,9 @@ ghost use Rattle.bm_control.specs.Sound.{IsSound};
 ghost use Rattle.bm_disks.specs.Loading.{IsGatePage, IsShut, IsLoadShut, IsClosing};
 
 use bm_base::{Failed, PAGE_BYTES};
+use bm_control::pages::{JOB_GATE, LOAD_GATE};
 use bm_control::{close_job, close_load, is_gate};
 use bm_rack::Rack;
-
-/// The page of the load gate.
-const LOAD_GATE: u16 = 1;
-
-/// The page of the job gate.
-const JOB_GATE: u16 = 3;
 
 // Whether a gate is open. The page is below 516.
 fn is_open<R: Rack>(rack: &mut R, gate: u16) -> Result<bool, Failed>

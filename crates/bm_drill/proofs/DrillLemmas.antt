@@ -16,8 +16,7 @@ use Rattle.bm_base.specs.Contents.{Contents, RackUnit, page_unit, page_at}
 use Rattle.bm_base.specs.Count.{raised}
 use Rattle.bm_base.specs.Gate.{IsClosedGate}
 use Rattle.bm_base.specs.Records.{record_at, SameRecords, bytes_of}
-use Rattle.bm_base.specs.Shape.{dims_of, stripes, load_stripes, loads_of}
-use Rattle.bm_base.proofs.ShapeLemmas.{loads_rows}
+use Rattle.bm_base.specs.Shape.{dims_of, stripes, loads_of}
 use Rattle.bm_forms.specs.declared.job.Job.{Job}
 use Rattle.bm_forms.specs.Job.{meaning, JobFits}
 use Rattle.bm_forms.specs.PassLimit.{limit_of}
@@ -39,9 +38,10 @@ use Rattle.sha2.specs.Sha256.{sha256}
 use Rattle.bm_drill.specs.Generated.{generated}
 use Rattle.bm_drill.specs.Sessions.{SessionsKeep, SessionsDone}
 use Rattle.bm_drill.specs.Steps.{IsNewRack, HasGenerated}
-use Rattle.bm_drill.specs.Drill.{DrillLeaves, SessionCounts}
+use Rattle.bm_drill.specs.Drill.{IsDrilled, SessionCounts}
 use Rattle.bm_drill.proofs.PaidLemmas.{rows_more}
 use Rattle.bm_job.proofs.HeldLemmas.{has_bits}
+use Rattle.bm_job.proofs.RunLemmas.{rows_of_passes}
 
 -- ---- the input
 
@@ -106,7 +106,7 @@ pub drill_leaves : (s : Shape) (job : Job) (passes every start : ℕ) (t : Sessi
     (a b c : RackView) → JobFits s job
     → HasGenerated s start a → SessionsKeep a b → IsSound b → SessionsDone s job passes every t a b → SameState b c
     → area ≡ area_after t.passes
-    → r.passes ≡ t.passes → r.digest ≡ sha256 (bytes_of (2 ^ s.n) (record_at b.contents s area)) → DrillLeaves s job start r c
+    → r.passes ≡ t.passes → r.digest ≡ sha256 (bytes_of (2 ^ s.n) (record_at b.contents s area)) → IsDrilled s job start r c
 drill_leaves s job passes every start t r area a b c fits x keeps sound d y last count digest =
     let area_is : area ≡ area_after r.passes = last ∙ ap area_after (sym count) in
     record {
@@ -123,13 +123,6 @@ drill_leaves s job passes every start t r area a b c fits x keeps sound d y last
       digest = subst₂ (λ (v : Contents) (k : Area). r.digest ≡ sha256 (bytes_of (2 ^ s.n) (record_at v s k)))
           (sym y.contents) area_is digest;
     }
-
--- the rows of the loads of so many passes
-rows_of_passes : (s : Shape) (p : ℕ) → load_rows s (p * loads_of s) ≡ 2 * stripes s * p
-rows_of_passes s p =
-    let one = loads_rows s in
-    let all : load_rows s (p * loads_of s) ≡ 2 * (loads_of s * load_stripes s) * p = omega arith in
-    all ∙ ap (λ (k : ℕ). 2 * k * p) one
 
 -- what the drill counts
 pub session_counts : (s : Shape) (job : Job) (passes every stops start : ℕ) (t : SessionsReport) (r : DrillReport) (a b : RackView)

@@ -6,6 +6,7 @@ use Rattle.bm_base.specs.declared.dims.Dims.{Dims}
 use Rattle.bm_base.specs.declared.shape.Shape.{Shape}
 use Rattle.bm_base.specs.Contents.{page_unit, HasSizes}
 use Rattle.bm_base.specs.Count.{raised}
+use Rattle.bm_base.proofs.CountLemmas.{rose_earlier}
 use Rattle.bm_forms.specs.declared.job.Job.{Job}
 use Rattle.bm_rack.specs.RackView.{RackView, IsClean, IsWellFormed}
 use Rattle.bm_rack.specs.Image.{InEveryImage}
@@ -13,11 +14,10 @@ use Rattle.bm_control.specs.Bodies.{IsJobBody}
 use Rattle.bm_control.specs.Progress.{IsGone, AreGone}
 use Rattle.bm_control.proofs.GoneLemmas.{consistent_gone}
 use Rattle.bm_control.proofs.ImageLemmas.{image_self, image_clean}
-use Rattle.bm_job.specs.Runs.{load_rows, KeepsJobs}
-use Rattle.bm_job.proofs.FaultLemmas.{rose_earlier}
+use Rattle.bm_job.specs.Runs.{load_rows, run_most, KeepsJobs}
 use Rattle.bm_control.specs.Pages.{job_gate, HasOpenJob, HasClosedJob}
 use Rattle.bm_drill.specs.Sessions.{SessionsKeep, KeepsRest}
-use Rattle.bm_drill.specs.Session.{SameJobPages, SessionKeeps, IsPaid, SessionStopped, IsStopped, IsBetween, run_most}
+use Rattle.bm_drill.specs.Session.{SameJobPages, SessionKeeps, IsPaid, SessionStopped, IsStopped, IsBetween}
 use Rattle.bm_drill.proofs.GoneLemmas.{gone_least}
 
 -- ---- what sessions keep

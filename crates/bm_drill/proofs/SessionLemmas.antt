@@ -29,9 +29,9 @@ use Rattle.bm_job.specs.declared.answers.RunError.{RunError}
 use Rattle.bm_job.specs.declared.answers.RunError.TheVariants.{Failed, NotLoaded, OtherShape, OtherJob, BadPage}
 use Rattle.bm_job.specs.Begins.{BeginAnswer}
 use Rattle.bm_job.specs.Runs.{IsRunUnit, load_rows, CallsFew, ReportFits, IsReportOf, RunAnswer, IsRunnable, RunDone, RunFailed, KeepsJobs}
-use Rattle.bm_job.specs.Runs.{KeepsOpenJob, MovesFew}
+use Rattle.bm_job.specs.Runs.{run_most, KeepsOpenJob, MovesFew}
 use Rattle.bm_job.proofs.EndLemmas.{keeps_open}
-use Rattle.bm_drill.specs.Session.{SessionKeeps, SessionWent, SessionStopped, SessionRefused, SessionAnswer, run_most}
+use Rattle.bm_drill.specs.Session.{SessionKeeps, SessionWent, SessionStopped, SessionRefused, SessionAnswer}
 
 -- what a run says of itself
 pub record RunFacts (ts tc : Bool) (s : Shape) (job : Job) (passes every pages syncs : ℕ) (a b : RackView)

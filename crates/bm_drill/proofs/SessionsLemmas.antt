@@ -21,12 +21,12 @@ use Rattle.bm_control.specs.Progress.{IsGone, AreGone}
 use Rattle.bm_control.specs.Sound.{IsSound}
 use Rattle.bm_control.proofs.ImageLemmas.{image_self}
 use Rattle.bm_job.proofs.HeldLemmas.{has_bits}
-use Rattle.bm_job.specs.Runs.{load_rows, loads_before, IsReportOf, RunDone}
+use Rattle.bm_job.specs.Runs.{load_rows, run_most, loads_before, IsReportOf, RunDone}
 use Rattle.bm_job.proofs.EndLemmas.{same_input_records}
 use Rattle.bm_control.proofs.UniqueLemmas.{passes_unique, every_unique}
 use Rattle.bm_control.specs.Pages.{job_body, HasOpenLoad, HasOpenJob, HasClosedJob, HasJobBody}
 use Rattle.bm_drill.specs.Sessions.{RestartsFew, SessionsDone}
-use Rattle.bm_drill.specs.Session.{SessionWent, IsBetween, run_most}
+use Rattle.bm_drill.specs.Session.{SessionWent, IsBetween}
 use Rattle.bm_drill.proofs.GoneLemmas.{gone_least}
 use Rattle.bm_drill.proofs.PaidLemmas.{rows_paid, rows_first}
 use Rattle.bm_drill.proofs.FrontLemmas.{input_kept}

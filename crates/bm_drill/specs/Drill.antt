@@ -17,7 +17,7 @@ use Rattle.bm_drill.specs.Generated.{generated}
 
 -- After a drill of a plan with so many passes: the rack stands, sound and clean; its input is the generated one, and the records of the
 -- last pass's area are the job's meaning of it.
-pub record DrillLeaves (s : Shape) (job : Job) (start : ℕ) (r : DrillReport) (new : RackView) : Type 0 where
+pub record IsDrilled (s : Shape) (job : Job) (start : ℕ) (r : DrillReport) (new : RackView) : Type 0 where
   pub stands : new.stands ≡ Some (dims_of s)
   pub attached : new.attached ≡ Some (dims_of s)
   pub sound : IsSound new

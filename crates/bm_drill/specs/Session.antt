@@ -4,9 +4,7 @@ use Rattle.bm_base.specs.declared.report.RunReport.{RunReport}
 use Rattle.bm_base.specs.declared.shape.Shape.{Shape}
 use Rattle.bm_base.specs.Contents.{Contents, page_at}
 use Rattle.bm_base.specs.Count.{raised, Rose}
-use Rattle.bm_base.specs.Shape.{stripes}
 use Rattle.bm_forms.specs.declared.job.Job.{Job}
-use Rattle.bm_forms.specs.PassLimit.{limit_of}
 use Rattle.bm_rack.specs.RackView.{RackView, IsClean, IsWellFormed}
 use Rattle.bm_rack.specs.Image.{InEveryImage}
 use Rattle.bm_control.specs.Pages.{job_body, job_gate, HasOpenJob, HasClosedJob, HasJobBody}
@@ -15,17 +13,13 @@ use Rattle.bm_control.specs.Sound.{IsSound}
 use Rattle.bm_job.specs.declared.answers.RunError.{RunError}
 use Rattle.bm_job.specs.declared.answers.RunError.TheVariants.{Failed, NotLoaded, OtherShape, OtherJob, BadPage}
 use Rattle.bm_job.specs.Begins.{BeginAnswer}
-use Rattle.bm_job.specs.Runs.{load_rows, ReportFits, IsReportOf, IsRunnable, RunDone, KeepsJobs}
+use Rattle.bm_job.specs.Runs.{load_rows, run_most, ReportFits, IsReportOf, IsRunnable, RunDone, KeepsJobs}
 use Rattle.bm_drill.specs.Sessions.{SessionsKeep, KeepsRest}
 
 -- the pages of an open job are as before
 pub record SameJobPages (old new : Contents) : Type 0 where
   pub body : page_at new job_body ≡ page_at old job_body
   pub gate : page_at new job_gate ≡ page_at old job_gate
-
--- the row calls that a run never exceeds
-abbrev pub run_most : Shape → Job → ℕ
-run_most s job = 2 * stripes s * limit_of s job
 
 -- what a session keeps at each exit
 pub record SessionKeeps (told_stands told_contents : Bool) (s : Shape) (job : Job) (passes every : ℕ) (old new : RackView) : Type 0 where

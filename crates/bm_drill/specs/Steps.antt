@@ -18,12 +18,6 @@ pub record IsNewRack (told_contents : Bool) (dims : Dims) (v : RackView) : Type 
   pub blank : IsTrue told_contents → IsBlank dims v.contents
   pub clean : IsClean v
 
--- a refusal makes no row call, page call or sync
-pub record MakesNoCalls (old new : RackView) : Type 0 where
-  pub moves : new.moves ≡ old.moves
-  pub pages : new.pages ≡ old.pages
-  pub syncs : new.syncs ≡ old.syncs
-
 -- the generated records of this shape are loaded on a sound and clean rack, and no job is open
 pub record HasGenerated (s : Shape) (start : ℕ) (v : RackView) : Type 0 where
   pub stands : v.stands ≡ Some (dims_of s)

@@ -4,10 +4,11 @@ ghost use Rattle.std.specs.Prelude.{◌≡◌, ℕ, ◌+◌, ◌*◌, ◌^◌, �
 ghost use Rattle.std.specs.Prelude.{None, length};
 ghost use Rattle.bm_base.specs.Shape.{stripes};
 ghost use Rattle.bm_bufs.specs.Bufs.{FitsShape};
+ghost use Rattle.bm_rack.specs.Frames.{SameCalls};
 ghost use Rattle.bm_forms.specs.Plan.{StandsFor};
 ghost use Rattle.bm_control.specs.Bodies.{JobBodyFits};
-ghost use Rattle.bm_drill.specs.Drill.{DrillLeaves, SessionCounts, DrillCounts};
-ghost use Rattle.bm_drill.specs.Steps.{HasGenerated, MakesNoCalls};
+ghost use Rattle.bm_drill.specs.Drill.{IsDrilled, SessionCounts, DrillCounts};
+ghost use Rattle.bm_drill.specs.Steps.{HasGenerated};
 
 use crate::drill_steps::{create_rack, hash_area, load_generated};
 use crate::sessions::run_sessions;
@@ -63,12 +64,12 @@ pub fn drill<R: StopRack>(
     requires size { 2 ^ spec.now.shape.n * spec.now.shape.width ≤ 2 ^ 26 }
     requires stops { length spec.now.stops ≤ 64 }
 
-    ensures leaves { IfOk result (λ r. DrillLeaves spec.now.shape spec.now.job spec.now.start r
+    ensures leaves { IfOk result (λ r. IsDrilled spec.now.shape spec.now.job spec.now.start r
         (R.view rack.new)) }
     ensures counts { IfOk result (λ r. DrillCounts spec.now.shape spec.now.job
         (length spec.now.plan.forms) spec.now.every (length spec.now.stops) r
         (R.view rack.old) (R.view rack.new)) }
-    ensures refused { OnErr result (MakesNoCalls (R.view rack.old) (R.view rack.new)) }
+    ensures refused { OnErr result (SameCalls (R.view rack.old) (R.view rack.new)) }
     ensures fits { FitsShape spec.now.shape bufs.new }
 {
     create_rack(rack, &spec.shape.dims())?;
@@ -90,7 +91,7 @@ fn run_and_hash<R: StopRack>(rack: &mut R, spec: &DrillSpec, bufs: &mut Bufs) ->
         (length spec.now.plan.forms) spec.now.every }
     requires size { stripes spec.now.shape ≤ 2 ^ 26 }
     requires stops { length spec.now.stops ≤ 64 }
-    ensures leaves { DrillLeaves spec.now.shape spec.now.job spec.now.start result
+    ensures leaves { IsDrilled spec.now.shape spec.now.job spec.now.start result
         (R.view rack.new) }
     ensures counts { SessionCounts spec.now.shape spec.now.job (length spec.now.plan.forms)
         spec.now.every (length spec.now.stops) result }

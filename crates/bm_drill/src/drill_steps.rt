@@ -5,13 +5,13 @@ ghost use Rattle.std.specs.Prelude.{IsErr, IfOk, OnOk};
 ghost use Rattle.bm_base.specs.declared.area.Area.TheVariants.{Input};
 ghost use Rattle.bm_base.specs.Records.{record_at, bytes_of, SameRecords};
 ghost use Rattle.bm_base.specs.Shape.{dims_of, stripes, load_size};
-ghost use Rattle.bm_rack.specs.Frames.{ChangesOnly, SameState, MovesRows, Keeps, HasCause};
+ghost use Rattle.bm_rack.specs.Frames.{ChangesOnly, SameState, SameCalls, MovesRows, Keeps, HasCause};
 ghost use Rattle.bm_stripe.specs.Units.{IsAreaUnit};
 ghost use Rattle.sha2.specs.Sha256.{sha256};
 ghost use Rattle.bm_drill.specs.Generated.{generated};
 ghost use Rattle.bm_base.specs.Count.{raised};
 ghost use Rattle.bm_bufs.specs.Bufs.{FitsShape};
-ghost use Rattle.bm_drill.specs.Steps.{IsNewRack, MakesNoCalls, HasGenerated};
+ghost use Rattle.bm_drill.specs.Steps.{IsNewRack, HasGenerated};
 
 use crate::generator::fill_load;
 use bm_base::{Area, Dims, Failed, OutOfMemory, Shape};
@@ -28,7 +28,7 @@ pub fn create_rack<R: Rack>(rack: &mut R, dims: &Dims) -> Result<(), OutOfMemory
     requires steady { IsTrue (R.view rack.old).steady }
     requires going { IsFalse (R.view rack.old).stopping }
     ensures made { OnOk result (IsNewRack R.tells_contents dims.now (R.view rack.new)) }
-    ensures calls { MakesNoCalls (R.view rack.old) (R.view rack.new) }
+    ensures calls { SameCalls (R.view rack.old) (R.view rack.new) }
     ensures keeps { Keeps (R.view rack.old) (R.view rack.new) }
 {
     match rack.create(dims) {

@@ -8,7 +8,7 @@ ghost use Rattle.bm_drill.specs.Generated.{generated_number, spread_bytes, gener
 
 use bm_base::Shape;
 
-/// The odd number next to 2^64 over the golden ratio.
+// The odd number next to 2^64 over the golden ratio.
 const FACTOR: u64 = 0x9E37_79B9_7F4A_7C15;
 
 // The number of record x.

@@ -3,17 +3,11 @@
 ghost use Rattle.std.specs.Prelude.{◌≡◌, ◌*◌, ◌^◌, ◌<◌, ◌≤◌, ◌↔◌, IsTrue, None, All, EachIndex, slice_index_or, length, MatchOption};
 ghost use Rattle.bm_filerack.specs.Standing.{length_of, Stands};
 
-use bm_base::{Dims, MOST_DISKS, PAGE_BYTES, SLATE_PAGES};
+use bm_base::{Dims, MOST_DISK_BYTES_BITS, MOST_DISKS, SLATE_BYTES};
 use bm_rack::Found;
 use std::io::ErrorKind;
 use std::rt::Files;
 use std::{fs, io};
-
-/// The number of files that disks can have.
-pub const DISK_FILES: usize = MOST_DISKS as usize;
-
-/// The bytes of the slate's file.
-pub const SLATE_BYTES: u64 = SLATE_PAGES as u64 * PAGE_BYTES as u64;
 
 /// The length of the file at a path, 2^64 - 1 for what is no plain file, or nothing where nothing is.
 ///
@@ -33,10 +27,10 @@ pub fn length_at<F: Files>(rt: &F, path: &str) -> io::Result<Option<u64>> {
 }
 
 /// A length for each disk's file, as where there is none.
-pub fn no_lengths() -> [Option<u64>; DISK_FILES]
+pub fn no_lengths() -> [Option<u64>; MOST_DISKS as usize]
     ensures { length result ≡ 64 }
 {
-    [None; DISK_FILES]
+    [None; MOST_DISKS as usize]
 }
 
 /// The bytes of a disk's file, or nothing where no file can be so long.
@@ -45,7 +39,7 @@ pub fn disk_length(dims: &Dims) -> Option<u64>
         (λ length. (length ≡ dims.now.places * dims.now.block) × (length < 2 ^ 63)) }
 {
     let length = u128::from(dims.places) * u128::from(dims.block);
-    if length < 1 << 63 {
+    if length < 1 << MOST_DISK_BYTES_BITS {
         Some(length as u64)
     } else {
         None
@@ -63,7 +57,7 @@ pub fn found(dims: &Dims, slate: Option<u64>, disks: &[Option<u64>]) -> Found
     let Some(wanted) = disk_length(dims) else {
         return Found::Other;
     };
-    if slate == Some(SLATE_BYTES)
+    if slate == Some(SLATE_BYTES as u64)
         && dims.disks <= MOST_DISKS
         && has_lengths(dims.disks as usize, wanted, disks)
     {

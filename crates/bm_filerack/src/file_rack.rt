@@ -11,7 +11,7 @@ use crate::file_error::FileError;
 use crate::file_lock::LockFile;
 use crate::file_path::{bay_front, front_in};
 use crate::folder::Folder;
-use bm_base::{Dims, Failed, OutOfMemory};
+use bm_base::{Dims, Failed, OutOfMemory, PAGE_BYTES};
 use bm_rack::{AttachError, CreateError, Found, Rack};
 use std::alloc::Global;
 use std::os::unix::fs::FileExt;
@@ -194,7 +194,7 @@ where
         self.settle(done)
     }
 
-    fn read_page(&mut self, page: u16, bytes: &mut [u8; 512]) -> Result<(), Failed> {
+    fn read_page(&mut self, page: u16, bytes: &mut [u8; PAGE_BYTES]) -> Result<(), Failed> {
         self.pages = self.pages.saturating_add(1);
         let done = match &self.files {
             Some(files) => files.read_page(page, bytes).is_ok(),
@@ -203,7 +203,7 @@ where
         self.settle(done)
     }
 
-    fn write_page(&mut self, page: u16, bytes: &[u8; 512]) -> Result<(), Failed> {
+    fn write_page(&mut self, page: u16, bytes: &[u8; PAGE_BYTES]) -> Result<(), Failed> {
         self.pages = self.pages.saturating_add(1);
         let done = match &mut self.files {
             Some(files) => files.write_page(page, bytes).is_ok(),

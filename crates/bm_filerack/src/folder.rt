@@ -5,11 +5,11 @@ ghost use Rattle.std.specs.String.{string_bytes};
 
 use crate::disk_files::DiskFiles;
 use crate::file_error::FileError;
-use crate::file_lengths::{DISK_FILES, SLATE_BYTES, disk_length, found, length_at, no_lengths};
+use crate::file_lengths::{disk_length, found, length_at, no_lengths};
 use crate::file_lock::LockFile;
 use crate::file_path::FilePath;
 use crate::synced_file::SyncedFile;
-use bm_base::{Dims, MOST_DISKS};
+use bm_base::{Dims, MOST_DISKS, SLATE_BYTES};
 use bm_rack::Found;
 use std::alloc::{AllocError, Global};
 use std::fs::{File, OpenFile, OpenOptions};
@@ -60,7 +60,7 @@ impl<'a, F: Files> Folder<'a, F> {
     }
 
     // The lengths of the files that disks can have.
-    fn disk_lengths(&mut self) -> io::Result<[Option<u64>; DISK_FILES]>
+    fn disk_lengths(&mut self) -> io::Result<[Option<u64>; MOST_DISKS as usize]>
         ensures { IfOk result (λ lengths. length lengths ≡ 64) }
     {
         let mut lengths = no_lengths();
@@ -183,7 +183,7 @@ where
     fn fill_slate(&self, slate: &F::File) -> io::Result<()> {
         slate.take_lock()?;
         self.sync()?;
-        set_length(slate, SLATE_BYTES)
+        set_length(slate, SLATE_BYTES as u64)
     }
 }
 

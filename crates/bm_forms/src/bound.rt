@@ -5,7 +5,7 @@ ghost use Rattle.bm_forms.specs.PassLimit.{map_limit, rotation_limit, limit_of};
 ghost use Rattle.bm_forms.specs.Job.{HasBits};
 
 use crate::job::Job;
-use crate::rounds::{last_bits, round_count};
+use crate::rounds::{last_bits, over_rounds};
 use bm_base::Shape;
 use bm_gf2::Matrix;
 use bm_rank::rank_of;
@@ -44,7 +44,7 @@ pub fn pass_limit(shape: &Shape, job: &Job) -> u16
         Job::Walsh => {
             let whole = rotation_limit(shape, shape.m());
             let last = rotation_limit(shape, last_bits(shape));
-            u16::from(round_count(shape) - 1) * u16::from(whole) + u16::from(last)
+            over_rounds(shape, whole, last)
         }
     }
 }

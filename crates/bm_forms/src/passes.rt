@@ -9,7 +9,7 @@ ghost use Rattle.bm_forms.specs.PassCount.{map_passes, rotation_passes, passes_o
 
 use crate::job::Job;
 use crate::mld_form::MldForm;
-use crate::rounds::{last_bits, round_count};
+use crate::rounds::{last_bits, over_rounds};
 use bm_base::Shape;
 use bm_gf2::{Affine, Matrix};
 use bm_rank::rank_of;
@@ -52,7 +52,7 @@ pub fn pass_count(shape: &Shape, job: &Job) -> u16
         Job::Walsh => {
             let whole = rotation_passes(shape, shape.m());
             let last = rotation_passes(shape, last_bits(shape));
-            u16::from(round_count(shape) - 1) * u16::from(whole) + u16::from(last)
+            over_rounds(shape, whole, last)
         }
     }
 }

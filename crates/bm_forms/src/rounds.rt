@@ -1,6 +1,6 @@
 //! The rounds of the transform.
 
-ghost use Rattle.std.specs.Prelude.{◌≡◌, ◌≤◌};
+ghost use Rattle.std.specs.Prelude.{◌≡◌, ◌+◌, ◌-◌, ◌*◌, ◌≤◌};
 ghost use Rattle.bm_forms.specs.Rounds.{rounds_of, last_bits};
 
 use bm_base::Shape;
@@ -22,4 +22,14 @@ pub fn last_bits(shape: &Shape) -> u8
     ensures few { result ≤ shape.now.m }
 {
     shape.n() - (round_count(shape) - 1) * shape.m()
+}
+
+/// What the rounds take together: `whole` each but the last one, and that one `last`.
+pub fn over_rounds(shape: &Shape, whole: u8, last: u8) -> u16
+    requires whole { whole ≤ shape.now.b + 2 }
+    requires last { last ≤ shape.now.b + 2 }
+    ensures sum { result ≡ (rounds_of shape.now - 1) * whole + last }
+    ensures few { result ≤ 256 }
+{
+    u16::from(round_count(shape) - 1) * u16::from(whole) + u16::from(last)
 }

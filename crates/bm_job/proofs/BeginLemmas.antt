@@ -23,7 +23,7 @@ use Rattle.bm_control.specs.declared.state.SlateState.{SlateState}
 use Rattle.bm_control.specs.declared.state.SlateState.TheVariants.{Closed, Loaded, Working}
 use Rattle.bm_control.specs.declared.state.ControlError.{ControlError}
 use Rattle.bm_control.specs.declared.state.ControlError.TheVariants as control
-use Rattle.bm_control.specs.Consistent.{BodiesAre, input_of, LoadsMoved, SlotStands, JobStands}
+use Rattle.bm_control.specs.Consistent.{BodiesAre, input_of, HoldsFirstLoads, SlotStands, JobStands}
 use Rattle.bm_control.specs.Moments.{JobIsWritten}
 use Rattle.bm_control.specs.Pages.{load_body, load_gate, slot_body, HasOpenJob, HasJobBody}
 use Rattle.bm_control.specs.PageCalls.{IsStartPage, MakesPageCalls, ReadsPages}
@@ -169,8 +169,8 @@ slot_moved s v j slot part t now loads form next =
     let found = element j.forms j.done below in
     moved_by s j.done part v found.0 form (record_at v s (area_after (j.done + 1))) (record_at v s (area_after j.done))
     (j.bodies j.done found.0 found.1) next
-    (subst₂ (λ (p l : ℕ). LoadsMoved s found.0 l (record_at v s (area_after p)) (passed found.0 (record_at v s (area_after j.done)))) now
-    loads
+    (subst₂ (λ (p l : ℕ). HoldsFirstLoads s found.0 l (record_at v s (area_after p)) (passed found.0 (record_at v s (area_after j.done))))
+    now loads
     (λ x inside. slot_record s v j slot t found.0 now found.1 below x inside))
   where
     slot_record : (s : Shape) (v : Contents) (j : JobStands s v) (slot : ℕ) (t : SlotStands s v j.forms j.done slot) (form : PassForm)

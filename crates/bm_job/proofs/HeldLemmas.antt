@@ -12,6 +12,7 @@ use Rattle.bm_base.specs.Contents.{Contents, RackUnit, page_unit, unit_at, page_
 use Rattle.bm_base.specs.Gate.{IsOpenGate}
 use Rattle.bm_base.specs.Records.{record_at, SameRecords}
 use Rattle.bm_base.specs.Shape.{dims_of, loads_of}
+use Rattle.bm_base.proofs.AreaLemmas.{target_no_input, areas_apart}
 use Rattle.bm_gf2.specs.Affine.{affine_image}
 use Rattle.bm_forms.specs.declared.job.Job.{Job}
 use Rattle.bm_forms.specs.declared.job.Job.TheVariants.{Permute, Walsh}
@@ -39,7 +40,7 @@ use Rattle.bm_control.proofs.MomentLemmas.{load_unique}
 use Rattle.bm_control.proofs.SoundLemmas.{one_size, sound_same}
 use Rattle.bm_job.specs.declared.machine.Machine.{Machine}
 use Rattle.bm_job.specs.Follows.{IsNext, AreMoved, IsHeld, Follows}
-use Rattle.bm_job.proofs.AreaLemmas.{target_no_input, areas_apart, input_unit}
+use Rattle.bm_job.proofs.InputUnitLemmas.{input_unit}
 use Rattle.bm_control.proofs.UniqueLemmas.{passes_unique, every_unique, done_unique, pass_map_unique}
 
 -- contents in which an open job stands with these passes, of which so many are done

@@ -1,8 +1,7 @@
 pub mod RangeLemmas
 pub mod CallLemmas
-pub mod AreaLemmas
+pub mod InputUnitLemmas
 pub mod AreaLoadLemmas
-pub mod FaultLemmas
 pub mod HeldLemmas
 pub mod StepLemmas
 pub mod CountedLemmas

@@ -7,6 +7,7 @@ use Rattle.bm_base.specs.Contents.{page_unit, page_at}
 use Rattle.bm_base.specs.Count.{raised}
 use Rattle.bm_base.proofs.CaseLemmas.{raised_both}
 use Rattle.bm_base.specs.Shape.{dims_of, stripes, load_stripes, loads_of}
+use Rattle.bm_base.proofs.ShapeLemmas.{loads_rows}
 use Rattle.bm_rack.specs.RackView.{RackView, IsWellFormed}
 use Rattle.bm_rack.specs.Image.{SameInput}
 use Rattle.bm_rack.specs.Frames.{DirtiesOnly, Keeps, RackCall, MakesCalls}
@@ -272,6 +273,13 @@ body_stands told_stands told_contents start now old mid page o left bodies bad =
     let has = bodies now.done (subst (λ (p : ℕ). now.done < p) o.same.passes left) in
     bad.1 has.pass (subst (λ (t : Shape). IsNext t now.done mid.contents has.pass) (sym o.same.shape)
     (subst (λ (p : List ℕ). IsPassBody start.shape now.done p has.pass) (sym same) has.body))
+
+-- the row calls of whole passes
+pub rows_of_passes : (s : Shape) (p : ℕ) → load_rows s (p * loads_of s) ≡ 2 * stripes s * p
+rows_of_passes s p =
+    let one = loads_rows s in
+    let all : load_rows s (p * loads_of s) ≡ 2 * (loads_of s * load_stripes s) * p = omega arith in
+    all ∙ ap (λ (k : ℕ). 2 * k * p) one
 
 -- the row calls of so many loads fit a word
 pub rows_fit : (s : Shape) (passes moved : ℕ) → passes ≤ 254 → moved ≤ passes * loads_of s → load_rows s moved < 2 ^ 64

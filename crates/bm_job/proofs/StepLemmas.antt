@@ -12,6 +12,7 @@ use Rattle.bm_base.specs.Gate.{IsOpenGate}
 use Rattle.bm_base.specs.Records.{record_at, SameRecords}
 use Rattle.bm_base.specs.Butterfly.{butterflies}
 use Rattle.bm_base.specs.Shape.{dims_of, loads_of}
+use Rattle.bm_base.proofs.AreaLemmas.{areas_apart}
 use Rattle.bm_gf2.specs.declared.affine.Affine.{Affine}
 use Rattle.bm_gf2.specs.Affine.{affine_image}
 use Rattle.bm_forms.specs.declared.job.Job.{Job}
@@ -26,11 +27,11 @@ use Rattle.bm_rack.specs.Calls.{IsPage}
 use Rattle.bm_rack.specs.Frames.{ChangesOnly, DirtiesOnly}
 use Rattle.bm_rack.proofs.FrameLemmas.{ChangesOnly-wider}
 use Rattle.bm_stripe.specs.Units.{IsAreaUnit}
-use Rattle.bm_pass.specs.LoadMove.{LoadMoved, LoadsMoved as PassMoved, IsTargetUnit}
+use Rattle.bm_pass.specs.LoadMove.{LoadMoved, LoadsMoved, IsTargetUnit}
 use Rattle.bm_pass.proofs.PassLemmas.{IsTargetUnit-area, image_below_records, source_stays, LoadsMoved-more, LoadsMoved-same}
 use Rattle.bm_pass.proofs.PassLemmas.{LoadsMoved-all}
 use Rattle.bm_control.specs.Bodies.{part_page, PartBodyFits, IsJobBody, IsPassBody, IsPartBody}
-use Rattle.bm_control.specs.Consistent.{input_of, LoadsMoved, JobStands}
+use Rattle.bm_control.specs.Consistent.{input_of, HoldsFirstLoads, JobStands}
 use Rattle.bm_control.specs.Moments.{PassIsDone, PartIsMoved}
 use Rattle.bm_control.specs.Pages.{pass_body, pass_gate, slot_body, slot_gate}
 use Rattle.bm_control.specs.PageCalls.{IsSlotPage}
@@ -40,7 +41,6 @@ use Rattle.bm_control.proofs.ImageLemmas.{DiffersIn}
 use Rattle.bm_control.proofs.JobStandsLemmas.{recs_same, element}
 use Rattle.bm_control.proofs.StateLemmas.{part_unique}
 use Rattle.bm_job.specs.Follows.{IsNext, AreMoved, IsHeld}
-use Rattle.bm_job.proofs.AreaLemmas.{areas_apart}
 use Rattle.bm_control.proofs.UniqueLemmas.{pass_map_unique, pass_low_unique}
 use Rattle.bm_job.proofs.HeldLemmas.{stands_at}
 
@@ -52,7 +52,7 @@ passed_numbers p q xs low map =
 -- what is moved by one form of a body is moved by the other
 pub moved_by : (s : Shape) (done loads : ℕ) (v : Contents) (form other : PassForm) (target source : ℕ → List ℕ) → IsNext s done v form
     → IsNext s done v other
-    → LoadsMoved s form loads target (passed form source) → LoadsMoved s other loads target (passed other source)
+    → HoldsFirstLoads s form loads target (passed form source) → HoldsFirstLoads s other loads target (passed other source)
 moved_by s done loads v form other target source next also moved x below =
     let map = pass_map_unique s done (page_at v (pass_body done)) form other next also in
     let low = pass_low_unique s done (page_at v (pass_body done)) form other next also in
@@ -70,7 +70,7 @@ moved_more s done load form old new next inside only moved one other also =
     let wide = ChangesOnly-wider (IsTargetUnit s form to load) (IsAreaUnit s to) old new
     (λ u. IsTargetUnit-area s form to load u next.of_shape) only in
     let source = source_stays s from to old new (areas_apart done) wide in
-    let before : PassMoved s form from to load old.contents old.contents =
+    let before : LoadsMoved s form from to load old.contents old.contents =
     (λ x below. moved form next x (let turned = mul_comm load (2 ^ s.m) in omega (arith, below, turned))) in
     let more = LoadsMoved-more s form from to load old.contents old new next.of_shape inside (λ z below. refl) only before one in
     let now = LoadsMoved-same s form from to (load + 1) old.contents new.contents new.contents next.of_shape
@@ -153,7 +153,7 @@ pub moved_kept : (P : ℕ → Type 0) (s : Shape) (done loads : ℕ) (a b : Cont
     → AreMoved s done loads a
     → AreMoved s done loads b
 moved_kept P s done loads a b d not moved form next =
-    subst₂ (λ (target source : ℕ → List ℕ). LoadsMoved s form loads target (passed form source))
+    subst₂ (λ (target source : ℕ → List ℕ). HoldsFirstLoads s form loads target (passed form source))
     (sym (recs_same P s (area_after (done + 1)) a b d)) (sym (recs_same P s (area_after done) a b d))
     (moved form (subst (λ (p : List ℕ). IsPassBody s done p form) (d.pages (pass_body done) not) next))
 

@@ -13,7 +13,7 @@ use Rattle.bm_rack.specs.RackView.{RackView}
 use Rattle.bm_stripe.specs.Units.{IsAreaUnit, record_unit}
 use Rattle.bm_control.specs.Bodies.{IsPassBody}
 use Rattle.bm_control.specs.Pages.{pass_body, HasOpenLoad, HasOpenJob, HasLoadBody, HasJobBody}
-use Rattle.bm_control.specs.Consistent.{GatesAre, LoadsMoved}
+use Rattle.bm_control.specs.Consistent.{GatesAre, HoldsFirstLoads}
 use Rattle.bm_control.specs.Progress.{IsCounted}
 use Rattle.bm_control.specs.Sound.{IsSound}
 use Rattle.bm_job.specs.declared.machine.Machine.{Machine}
@@ -25,7 +25,7 @@ IsNext s done v form = IsPassBody s done (page_at v (pass_body done)) form
 -- the records of the first `loads` loads of pass done + 1 stand in its target area where the pass takes them
 abbrev pub AreMoved : Shape → ℕ → ℕ → Contents → Type 0
 AreMoved s done loads v = (form : PassForm) → IsNext s done v form
-    → LoadsMoved s form loads (record_at v s (area_after (done + 1))) (passed form (record_at v s (area_after done)))
+    → HoldsFirstLoads s form loads (record_at v s (area_after (done + 1))) (passed form (record_at v s (area_after done)))
 
 -- no block that holds one of these records is dirty
 abbrev pub AreDurable : Shape → ℕ → ℕ → RackView → Type 0

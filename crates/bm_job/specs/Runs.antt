@@ -10,7 +10,7 @@ use Rattle.bm_base.specs.Contents.{Contents, RackUnit, block_unit, page_unit, pa
 use Rattle.bm_base.specs.Count.{raised}
 use Rattle.bm_base.specs.Gate.{IsOpenGate}
 use Rattle.bm_base.specs.Records.{record_at, SameRecords}
-use Rattle.bm_base.specs.Shape.{load_stripes, loads_of}
+use Rattle.bm_base.specs.Shape.{stripes, load_stripes, loads_of}
 use Rattle.bm_forms.specs.declared.job.Job.{Job}
 use Rattle.bm_forms.specs.Job.{meaning}
 use Rattle.bm_forms.specs.PassLimit.{limit_of}
@@ -99,6 +99,10 @@ loads_left m = m.passes * loads_of m.shape - loads_moved m
 -- the row calls of so many loads
 abbrev pub load_rows : Shape → ℕ → ℕ
 load_rows s loads = 2 * load_stripes s * loads
+
+-- the row calls that a run never exceeds: 2N/BD for each pass of the pass limit
+abbrev pub run_most : Shape → Job → ℕ
+run_most s job = 2 * stripes s * limit_of s job
 
 -- ---- reports and answers
 

@@ -45,7 +45,7 @@ pub record IsNextOf (old new : Machine) : Type 0 where
   pub unmarked : old.load + 1 < loads_of old.shape → (old.load + 1) % old.every ≢ 0 → (new.part ≡ old.part) × (new.slot ≡ old.slot)
 
 -- a machine that is as before, and goes on no more
-pub record IsStopped (old new : Machine) : Type 0 where
+pub record IsHalted (old new : Machine) : Type 0 where
   pub same : SameJob old new
   pub alive : IsFalse new.alive
   pub done : new.done ≡ old.done

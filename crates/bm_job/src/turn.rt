@@ -10,7 +10,7 @@ ghost use Rattle.bm_rack.specs.Image.{SameInput, InEveryImage};
 ghost use Rattle.bm_control.specs.Progress.{IsGone};
 ghost use Rattle.bm_control.specs.Sound.{IsSound};
 ghost use Rattle.bm_job.specs.Follows.{Follows, IsNext, loads_moved, loads_counted};
-ghost use Rattle.bm_job.specs.Turns.{SameJob, IsNextOf, IsStopped, TurnAnswer, IsTurnRefusal};
+ghost use Rattle.bm_job.specs.Turns.{SameJob, IsNextOf, IsHalted, TurnAnswer, IsTurnRefusal};
 ghost use Rattle.bm_job.specs.Turns.{HasRead, IsBadBody, IsTurnUnit, form_pages, durable_pages};
 ghost use Rattle.bm_job.specs.Turns.{durable_syncs};
 
@@ -41,7 +41,7 @@ impl Machine {
         ensures idle { self.old.done ≡ self.old.passes
             → (result ≡ Ok Turn.Finished) × (self.new ≡ self.old) × (rack.new ≡ rack.old) }
         ensures next { self.old.done < self.old.passes → OnOk result (IsNextOf self.old self.new) }
-        ensures stopped { OnErr result (IsStopped self.old self.new) }
+        ensures stopped { OnErr result (IsHalted self.old self.new) }
         ensures alive { OnOk result (IsTrue self.new.alive) }
         ensures moved { self.old.done < self.old.passes
             → OnOk result (loads_moved self.new ≡ loads_moved self.old + 1) }

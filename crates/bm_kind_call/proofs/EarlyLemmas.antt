@@ -24,12 +24,12 @@ use Rattle.bm_top.proofs.CarryLoadLemmas.{LoadedBy, carry_not_loaded}
 use Rattle.bm_top.proofs.ExitLemmas.{MovesFew-same, AppendsFront-none}
 use Rattle.bm_top.proofs.MemoryLemmas.{memory_refused}
 use Rattle.bm_top.proofs.SameDisksLemmas.{calls_kept}
-use Rattle.bm_kind_call.specs.Kinds.{plan_of, kinded}
+use Rattle.bm_kind_call.specs.Kinds.{walsh_passes, kinded}
 use Rattle.bm_kind_call.specs.Exits.{shape_task, KindMay, KindCall}
 
 -- so it ends where a carry of its shape would, with nothing written
 kind_early : (t : Tells) (file : KindFile) (old : Devices) (answer : Status) (new : Devices) → KindMay answer → answer ≢ Done
-    → answer ≢ SinkFault → new.out ≡ old.out → MovesFew (2 * stripes file.shape * (plan_of file.shape + 1)) old.rack new.rack
+    → answer ≢ SinkFault → new.out ≡ old.out → MovesFew (2 * stripes file.shape * (walsh_passes file.shape + 1)) old.rack new.rack
     → TaskCall t Carry (shape_task file.shape) old answer new → KindCall t file old answer new
 kind_early t file old answer new may not_done not_cut out few call = record {
   may = may;
@@ -119,10 +119,10 @@ kind_not_loaded t file old mid new e made by =
     no_sink (load.DataShort got) is = absurd (cc)
     no_sink load.DataLong is = absurd (cc)
 
-    few : MovesFew (2 * stripes file.shape * (plan_of file.shape + 1)) old.rack new.rack
+    few : MovesFew (2 * stripes file.shape * (walsh_passes file.shape + 1)) old.rack new.rack
     few =
         let s = file.shape in
-        let p = plan_of s in
+        let p = walsh_passes s in
         let sum : 2 * stripes s * (p + 1) ≡ 2 * stripes s * p + 2 * stripes s = omega arith in
         let same = made.calls.moves in
         let low = by.counts.moves_low in

@@ -1,5 +1,5 @@
 -- A transform whose input is loaded: its run fails, or what it made is written, or not.
-use Rattle.std.proofs.Common.{◌≡◌, inl, inr, ⊎_elim, ℕ, ◌+◌, ◌*◌, ◌^◌, ◌≤◌, ◌++◌, Bool, IsTrue, List, None, Result, Ok, Err, IsOk}
+use Rattle.std.proofs.Common.{◌≡◌, inl, inr, ⊎_elim, ℕ, ◌+◌, ◌*◌, ◌^◌, ◌≤◌, ◌++◌, Bool, IsTrue, List, None, Result, Ok, Err}
 use Rattle.std.proofs.Common.{refl, sym, ap, subst, ◌∙◌, arith}
 use Rattle.bm_base.specs.declared.area.Area.{Area}
 use Rattle.bm_base.specs.declared.fault.Failed.{Failed}
@@ -10,6 +10,7 @@ use Rattle.bm_base.specs.Gate.{IsOpenGate, IsClosedGate}
 use Rattle.bm_base.specs.Records.{record_in}
 use Rattle.bm_base.specs.Shape.{dims_of, stripes}
 use Rattle.bm_base.proofs.RecordLemmas.{bytes_of-same}
+use Rattle.bm_base.proofs.CountLemmas.{rose_earlier}
 use Rattle.bm_rack.specs.RackView.{RackView}
 use Rattle.bm_rack.specs.Image.{InEveryImage, SameInput}
 use Rattle.bm_rack.specs.Frames.{ChangesOnly, HasCause, Keeps}
@@ -19,7 +20,6 @@ use Rattle.bm_control.specs.Consistent.{input_of}
 use Rattle.bm_control.specs.Pages.{load_body, load_gate, job_gate, HasClosedJob}
 use Rattle.bm_control.proofs.ImageLemmas.{settled_in_image, settled_clean}
 use Rattle.bm_control.proofs.SoundLemmas.{sound_same}
-use Rattle.bm_job.proofs.FaultLemmas.{rose_earlier}
 use Rattle.bm_disks.specs.Dumping.{area_bytes}
 use Rattle.bm_disks.specs.declared.dumping.DumpError.{DumpError}
 use Rattle.bm_disks.specs.declared.dumping.DumpError.TheVariants as dump
@@ -27,21 +27,20 @@ use Rattle.bm_kinds.specs.Kinds.{pairing}
 use Rattle.bm_kinds.proofs.KindLemmas.{kernel_over-kind}
 use Rattle.bm_kinds.proofs.OverLemmas.{kernel_over-same}
 use Rattle.bm_kindjob.specs.declared.kind_file.KindFile.{KindFile}
-use Rattle.bm_kindjob.specs.KindRun.{IsWorkUnit}
+use Rattle.bm_kindjob.specs.KindRun.{IsWorkBlock}
 use Rattle.bm_kindjob.proofs.SoundLemmas.{work_no_page, input_no_work}
 use Rattle.bm_top.specs.Causes.{CauseOf}
 use Rattle.bm_top.specs.Moment.{SinkView, Devices, Tells, TellsRack}
 use Rattle.bm_top.specs.Status.{IsBeforeDisks, IsOfInput}
-use Rattle.bm_top.specs.TopCall.{NoFaults, IsDoneUnlessMemory}
 use Rattle.bm_top.specs.commands.Carry.{IsLoadedFrom}
 use Rattle.bm_top.specs.declared.words.Verb.TheVariants.{Carry}
-use Rattle.bm_top.specs.declared.status.Status.TheVariants.{Done, RackFault}
+use Rattle.bm_top.specs.declared.status.Status.TheVariants.{RackFault}
 use Rattle.bm_top.proofs.CarryWholeLemmas.{whole_loaded}
-use Rattle.bm_top.proofs.DumpLemmas.{AreaDumped, dump_answer}
+use Rattle.bm_top.proofs.DumpLemmas.{AreaDumped, dump_answer, dumped_ok, dumped_failed, dumped_complete}
 use Rattle.bm_top.proofs.ExitLemmas.{CallsGrow-trans, AppendsFront-none}
 use Rattle.bm_top.proofs.FaultLemmas.{cause_later}
 use Rattle.bm_kind_call.specs.Exits.{shape_task, KindMay, KindCall}
-use Rattle.bm_kind_call.specs.Kinds.{kind_of, plan_of, kinded, KindRan, KindStands}
+use Rattle.bm_kind_call.specs.Kinds.{named_kind, walsh_passes, kinded, KindRan, KindStands}
 use Rattle.bm_kind_call.specs.Texts.{FileFits}
 
 -- ---- row calls
@@ -80,7 +79,7 @@ no_job t file old mid loaded told dims image stands i =
     (settled_clean IsClosedGate job_gate mid.rack loaded.clean (loaded.job_gate told)) i
 
 -- the input is as it was
-input_kept : (file : KindFile) (old new : RackView) → ChangesOnly (IsWorkUnit file.shape) old new → SameInput (dims_of file.shape) old new
+input_kept : (file : KindFile) (old new : RackView) → ChangesOnly (IsWorkBlock file.shape) old new → SameInput (dims_of file.shape) old new
 input_kept file old new only = record {
   contents = λ u input. only.contents u (input_no_work file.shape u input);
   dirty = λ u input clean. only.dirty u (input_no_work file.shape u input) ∙ clean;
@@ -88,7 +87,7 @@ input_kept file old new only = record {
 
 -- the run fails
 pub kind_not_run : (t : Tells) (file : KindFile) (d old : Devices) (mid new : RackView) (passes : ℕ) (e : Failed)
-    → passes ≡ plan_of file.shape → IsLoadedFrom t (shape_task file.shape) old (record d { rack = mid })
+    → passes ≡ walsh_passes file.shape → IsLoadedFrom t (shape_task file.shape) old (record d { rack = mid })
     → KindRan t file passes mid (Err e) new → KindCall t file old RackFault (record d { rack = new })
 kind_not_run t file d old mid new passes e same loaded ran = record {
   may = tt;
@@ -128,8 +127,8 @@ kind_not_run t file d old mid new passes e same loaded ran = record {
       absurd (calm.rack (rose_earlier old.rack.faults mid.faults new.faults loaded.keeps.faults (ran.cause.rose refl)));
 }
   where
-    rows : (old.rack.moves ≤ new.moves) × (new.moves ≤ raised old.rack.moves (2 * stripes file.shape * (plan_of file.shape + 1)))
-    rows = run_rows old.rack.moves mid.moves new.moves (stripes file.shape) passes (plan_of file.shape) same loaded.grow.moves
+    rows : (old.rack.moves ≤ new.moves) × (new.moves ≤ raised old.rack.moves (2 * stripes file.shape * (walsh_passes file.shape + 1)))
+    rows = run_rows old.rack.moves mid.moves new.moves (stripes file.shape) passes (walsh_passes file.shape) same loaded.grow.moves
         ran.moved.low loaded.moves ran.moved.high
 
 -- ---- an output
@@ -150,16 +149,6 @@ dumped_no_input (Ok x) of = of
 dumped_no_input (Err dump.Failed) of = of
 dumped_no_input (Err dump.SinkFault) of = of
 
-dumped_ok : (r : Result (Unit {0}) DumpError) → dump_answer r ≡ Done → IsOk r
-dumped_ok (Ok x) is = refl
-dumped_ok (Err dump.Failed) is = absurd (cc)
-dumped_ok (Err dump.SinkFault) is = absurd (cc)
-
-dumped_failed : (r : Result (Unit {0}) DumpError) → dump_answer r ≡ RackFault → r ≡ Err dump.Failed
-dumped_failed (Ok x) is = absurd (cc)
-dumped_failed (Err dump.Failed) is = refl
-dumped_failed (Err dump.SinkFault) is = absurd (cc)
-
 -- why one comes
 dumped_cause : (t : Tells) (file : KindFile) (d e : Devices) (r : Result (Unit {0}) DumpError) → (IsTrue t.stands → d.rack.stands ≡ None)
     → (r ≡ Err dump.SinkFault → Rose d.out.faults e.out.faults) → HasCause (r ≡ Err dump.Failed) d.rack e.rack
@@ -168,15 +157,9 @@ dumped_cause t file d e (Ok x) stood sink rack = stood
 dumped_cause t file d e (Err dump.Failed) stood sink rack = rack.rose refl
 dumped_cause t file d e (Err dump.SinkFault) stood sink rack = (stood, sink refl)
 
-dumped_complete : (d e : Devices) (r : Result (Unit {0}) DumpError) → (r ≡ Err dump.SinkFault → Rose d.out.faults e.out.faults)
-    → HasCause (r ≡ Err dump.Failed) d.rack e.rack → NoFaults d e → IsDoneUnlessMemory (dump_answer r)
-dumped_complete d e (Ok x) sink rack calm = inl refl
-dumped_complete d e (Err dump.Failed) sink rack calm = absurd (calm.rack (rack.rose refl))
-dumped_complete d e (Err dump.SinkFault) sink rack calm = absurd (calm.out (sink refl))
-
 -- the run is done, and what it made is written, or a front of it
 pub kind_dumped : (t : Tells) (file : KindFile) (d old : Devices) (mid look new : RackView) (out out' : SinkView) (passes moves : ℕ)
-    (area : Area) (r : Result (Unit {0}) DumpError) → FileFits file → passes ≡ plan_of file.shape → area ≡ area_after passes
+    (area : Area) (r : Result (Unit {0}) DumpError) → FileFits file → passes ≡ walsh_passes file.shape → area ≡ area_after passes
     → IsLoadedFrom t (shape_task file.shape) old (record d { out = out; rack = mid }) → KindRan t file passes mid (Ok moves) look
     → AreaDumped t file.shape area out look r new out' → KindCall t file old (dump_answer r) (record d { out = out'; rack = new })
 kind_dumped t file d old mid look new out out' passes moves area r fits same at loaded ran k = record {
@@ -188,8 +171,8 @@ kind_dumped t file d old mid look new out out' passes moves area r fits same at 
     records = λ told. k.done told.2 told.0.1 (dumped_ok r is)
         ∙ ap (λ (xs : List ℕ). out.taken ++ xs) (made told.0.1 told.1)
         ∙ ap (λ (xs : List ℕ). xs ++ kinded file old.input.left) taken;
-    sums = λ x below. kernel_over-kind (kind_of file.kind) file.shape.n file.set (record_in file.shape old.input.left) fits.set x below;
-    moves = all_rows old.rack.moves mid.moves look.moves new.moves (stripes file.shape) passes (plan_of file.shape) same loaded.moves
+    sums = λ x below. kernel_over-kind (named_kind file.kind) file.shape.n file.set (record_in file.shape old.input.left) fits.set x below;
+    moves = all_rows old.rack.moves mid.moves look.moves new.moves (stripes file.shape) passes (walsh_passes file.shape) same loaded.moves
         (ran.moved.done refl) (k.moved.done (dumped_ok r is));
     after = after;
   };
@@ -250,14 +233,14 @@ kind_dumped t file d old mid look new out out' passes moves area r fits same at 
     made : IsTrue t.contents → IsTrue t.input → area_bytes look.contents file.shape area ≡ kinded file old.input.left
     made told input =
         let s = file.shape in
-        let f = pairing (kind_of file.kind) in
+        let f = pairing (named_kind file.kind) in
         ap (λ (a : Area). area_bytes look.contents s a) at
         ∙ bytes_of-same (2 ^ s.n) _ _ (λ x below. ran.records told x below
         ∙ kernel_over-same f s.n s.n file.set (input_of mid.contents s) (record_in s old.input.left) (omega arith)
         (loaded.records input told) x below)
 
     -- the output changes nothing
-    only : ChangesOnly (IsWorkUnit file.shape) mid new
+    only : ChangesOnly (IsWorkBlock file.shape) mid new
     only = record {
       stands = k.state.stands ∙ ran.only.stands;
       attached = k.state.attached ∙ ran.only.attached;
@@ -277,6 +260,6 @@ kind_dumped t file d old mid look new out out' passes moves area r fits same at 
       clean = λ u apart. only.dirty u apart ∙ loaded.clean u;
     }
 
-    rows : (old.rack.moves ≤ new.moves) × (new.moves ≤ raised old.rack.moves (2 * stripes file.shape * (plan_of file.shape + 1)))
-    rows = few_rows old.rack.moves mid.moves look.moves new.moves (stripes file.shape) passes (plan_of file.shape) same loaded.grow.moves
+    rows : (old.rack.moves ≤ new.moves) × (new.moves ≤ raised old.rack.moves (2 * stripes file.shape * (walsh_passes file.shape + 1)))
+    rows = few_rows old.rack.moves mid.moves look.moves new.moves (stripes file.shape) passes (walsh_passes file.shape) same loaded.grow.moves
         ran.moved.low k.moved.low loaded.moves ran.moved.high k.moved.high

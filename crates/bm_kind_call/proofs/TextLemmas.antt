@@ -1,7 +1,7 @@
 -- The text of a transform: what is read of its source, the first fault of one, and a text that means a file, which has none.
-use Rattle.std.proofs.Common.{◌≡◌, ◌≢◌, inl, inr, ⊎_elim, ℕ, ◌<◌, ◌≤◌, ◌++◌, Bool, IsTrue, List, [], length, drop, slice_index, Some}
+use Rattle.std.proofs.Common.{◌≡◌, ◌≢◌, inr, ⊎_elim, ℕ, ◌≤◌, Bool, IsTrue, List, [], length, slice_index, Some}
 use Rattle.std.proofs.Common.{Result, Ok, Err, IfOk, IfErr, IsErrOf, refl, sym, ap, subst, ◌∙◌, arith}
-use Rattle.std.proofs.lemmas.List.{drop_all, drop_at, length-append}
+use Rattle.std.proofs.lemmas.List.{drop_all}
 use Rattle.bm_base.specs.declared.field_name.FieldName.{FieldName}
 use Rattle.bm_base.specs.declared.shape.Shape.{Shape}
 use Rattle.bm_base.specs.Count.{Rose}
@@ -14,9 +14,11 @@ use Rattle.bm_kindjob.specs.declared.reading.KindText.{KindText}
 use Rattle.bm_kindjob.specs.SetList.{SetFaultIs}
 use Rattle.bm_kindjob.specs.KindText.{text_of}
 use Rattle.bm_kindjob.specs.KindFile.{HasFaultyField, HasBrokenRule, HasMapFault, IsKindFile, MapFaultIs, Says}
-use Rattle.bm_disks.specs.Input.{IsRead}
+use Rattle.bm_top.specs.JobRead.{JobRead}
 use Rattle.bm_top.specs.Moment.{SourceView}
-use Rattle.bm_top.specs.Status.{RefusesJob}
+use Rattle.bm_top.specs.Status.{IsBeforeDocument, RefusesJob}
+use Rattle.bm_top.specs.declared.words.Verb.{Verb}
+use Rattle.bm_top.specs.declared.words.Verb.TheVariants.{New}
 use Rattle.bm_top.specs.declared.status.Status.{Status}
 use Rattle.bm_top.specs.declared.status.Status.TheVariants.{Done, OutOfMemory, Usage, JobFault, JobText, JobField, JobShape, JobMap}
 use Rattle.bm_top.specs.declared.status.Status.TheVariants.{DataFault, DataShort, DataLong, RackFault, NoDisks, WrongDims, Exists}
@@ -122,10 +124,10 @@ fits_file text (Err e) is = tt
 fits_file text (Ok file) is = record { width = is.file_said.set.width; set = is.file_said.set.below }
 
 -- it is that of the source that held the text
-pub holds_file : (told : Bool) (v : SourceView) (text : List ℕ) (result : Result KindFile Status) → (IsTrue told → v.left ≡ text)
+pub holds_file : (told : Bool) (v : SourceView) (text : List ℕ) (result : Result KindFile Status) → (IsTrue told → text ≡ v.left)
     → IfOk result (λ file. IsKindFile text file) → IfOk result (λ file. HoldsFile told v file)
 holds_file told v text (Err e) same is = tt
-holds_file told v text (Ok file) same is = λ t. subst (λ (x : List ℕ). IsKindFile x file) (sym (same t)) is
+holds_file told v text (Ok file) same is = λ t. subst (λ (x : List ℕ). IsKindFile x file) (same t) is
 
 -- ---- the first fault of a text
 
@@ -165,91 +167,56 @@ map_cause text shape e faulty = record {
 
 -- ---- the source
 
--- one that was not read
-pub source_unread : (told : Bool) (v : SourceView) → TextRead told v OutOfMemory v
-source_unread told v = record {
-  cause = λ t. no_cause v.left OutOfMemory (λ e. e);
-  map = λ fault e. absurd (cc);
-  ended = λ t is. absurd is;
-  read = λ t is. absurd is;
-  memory = λ t e. inl refl;
-  few = λ t. (0, omega arith, refl);
-  fault = λ e. absurd (cc);
-  faults = omega arith;
-}
-
-read_most : (old new : List ℕ) (most : ℕ) → most ≡ 65537 → IsRead most old new → IsRead 65537 old new
-read_most old new most is few = (few.0, omega (arith, is, few.1), few.2)
-
--- one that held more than a text
-pub source_too_long : (told : Bool) (text : List ℕ) (old new : SourceView) (most : ℕ) → most ≡ 65537 → length text ≡ most
-    → (IsTrue told → old.left ≡ text ++ new.left) → (IsTrue told → IsRead most old.left new.left) → old.faults ≤ new.faults
-    → TextRead told old JobText new
-source_too_long told text old new most is long whole few low = record {
-  cause = λ t.
-      let all = ap length (whole t) ∙ length-append text new.left in
-      record {
-        document = λ e. inl (omega (arith, all, long, is));
-        field = λ which e. absurd (cc);
-        rule = λ rule e. absurd (cc);
-        map = λ fault e. absurd (cc);
-      };
-  map = λ fault e. absurd (cc);
-  ended = λ t is. absurd is;
-  read = λ t read. sym (ap (drop 65537) (whole t) ∙ drop_at text new.left 65537 (long ∙ is));
-  memory = λ t e. absurd (cc);
-  few = λ t. read_most old.left new.left most is (few t);
-  fault = λ e. absurd (cc);
-  faults = low;
-}
-
--- one of which a read failed
-pub source_failed : (told : Bool) (old new : SourceView) (most : ℕ) → most ≡ 65537 → (IsTrue told → IsRead most old.left new.left)
-    → Rose old.faults new.faults → old.faults ≤ new.faults → TextRead told old JobFault new
-source_failed told old new most is few rose low = record {
+-- one that failed or was too long, or for whose text there was no memory
+pub source_refused : (told : Bool) (old : SourceView) (answer : Status) (new : SourceView) → IsBeforeDocument answer
+    → ((verb : Verb) → JobRead verb told old answer new) → TextRead told old answer new
+source_refused told old answer new early reads = record {
   cause = λ t. record {
-    document = λ e. absurd (cc);
-    field = λ which e. absurd (cc);
-    rule = λ rule e. absurd (cc);
-    map = λ fault e. absurd (cc);
+    document = λ e. (read.cause t).document e;
+    field = λ which e. absurd (subst IsBeforeDocument e early);
+    rule = λ rule e. absurd (subst IsBeforeDocument e early);
+    map = λ fault e. absurd (subst IsBeforeDocument e early);
   };
-  map = λ fault e. absurd (cc);
-  ended = λ t is. absurd is;
-  read = λ t is. absurd is;
-  memory = λ t e. absurd (cc);
-  few = λ t. read_most old.left new.left most is (few t);
-  fault = λ e. rose;
-  faults = low;
+  map = λ fault e. absurd (subst IsBeforeDocument e early);
+  ended = read.ended;
+  read = read.read;
+  memory = read.memory;
+  few = read.few;
+  fault = read.fault;
+  faults = read.faults;
 }
+  where
+    read : JobRead New told old answer new
+    read = reads New
 
--- one that ended, whose text is refused
-pub text_refused : (told : Bool) (old new : SourceView) (text : List ℕ) (result : Result KindFile Status) (most got : ℕ)
-    → (IsTrue told → old.left ≡ text) → ¬ IsErrOf result JobFault → IfErr result (λ status. TextCause text status)
-    → ((fault : MapFault) → IsErrOf result (JobMap fault) → IsSetFault fault)
-    → most ≡ 65537 → got < most → (IsTrue told → (got ≡ length old.left) × (new.left ≡ [])) → (IsTrue told → IsRead most old.left new.left)
-    → old.faults ≤ new.faults → IfErr result (λ status. TextRead told old status new)
-text_refused told old new text (Ok file) most got same calm cause map is short end few low = tt
-text_refused told old new text (Err status) most got same calm cause map is short end few low = record {
-  cause = λ t. subst (λ (x : List ℕ). TextCause x status) (sym (same t)) cause;
-  map = λ fault e. map fault (ap Err e);
-  ended = λ t is. (end t).1;
-  read = λ t read. (end t).1 ∙ sym (drop_all 65537 old.left (omega (arith, (end t).0, is, short)));
-  memory = λ t e. inr (end t).1;
-  few = λ t. read_most old.left new.left most is (few t);
-  fault = λ e. absurd (calm (ap Err e));
-  faults = low;
-}
-
--- one whose file was taken
-pub source_taken : (told : Bool) (answer : Status) (old new : SourceView) → ¬ RefusesJob answer
-    → (IsTrue told → (new.left ≡ []) × (length old.left ≤ 65536)) → old.faults ≤ new.faults → TextRead told old answer new
-source_taken told answer old new fine end low = record {
-  cause = λ t. no_cause old.left answer fine;
-  map = λ fault e. absurd (fine (subst RefusesJob (sym e) tt));
+-- one that ended
+source_ended : (told : Bool) (answer : Status) (old new : SourceView) → answer ≢ JobFault
+    → (IsTrue told → (new.left ≡ []) × (length old.left ≤ 65536)) → old.faults ≤ new.faults → (IsTrue told → TextCause old.left answer)
+    → ((fault : MapFault) → answer ≡ JobMap fault → IsSetFault fault) → TextRead told old answer new
+source_ended told answer old new other end low cause map = record {
+  cause = cause;
+  map = map;
   ended = λ t is. (end t).0;
   read = λ t read. (end t).0 ∙ sym (drop_all 65537 old.left (omega (arith, (end t).1)));
   memory = λ t e. inr (end t).0;
   few = λ t. (length old.left, omega (arith, (end t).1), (end t).0 ∙ sym (drop_all (length old.left) old.left (omega arith)));
-  fault = λ e. absurd (fine (subst RefusesJob (sym e) tt));
+  fault = λ e. absurd (other e);
   faults = low;
 }
+
+-- one whose text is refused
+pub text_refused : (told : Bool) (old new : SourceView) (text : List ℕ) (result : Result KindFile Status)
+    → (IsTrue told → text ≡ old.left) → (IsTrue told → (new.left ≡ []) × (length old.left ≤ 65536)) → old.faults ≤ new.faults
+    → ¬ IsErrOf result JobFault → IfErr result (λ status. TextCause text status)
+    → ((fault : MapFault) → IsErrOf result (JobMap fault) → IsSetFault fault) → IfErr result (λ status. TextRead told old status new)
+text_refused told old new text (Ok file) same end low calm cause map = tt
+text_refused told old new text (Err status) same end low calm cause map =
+    source_ended told status old new (λ e. calm (ap Err e)) end low (λ t. subst (λ (x : List ℕ). TextCause x status) (same t) cause)
+    (λ fault e. map fault (ap Err e))
+
+-- one whose file was taken
+pub source_taken : (told : Bool) (answer : Status) (old new : SourceView) → ¬ RefusesJob answer
+    → (IsTrue told → (new.left ≡ []) × (length old.left ≤ 65536)) → old.faults ≤ new.faults → TextRead told old answer new
+source_taken told answer old new fine end low =
+    source_ended told answer old new (λ e. fine (subst RefusesJob (sym e) tt)) end low (λ t. no_cause old.left answer fine)
+    (λ fault e. absurd (fine (subst RefusesJob (sym e) tt)))

@@ -22,7 +22,7 @@ use Rattle.bm_top.specs.declared.words.Verb.TheVariants.{Carry}
 use Rattle.bm_top.specs.declared.status.Status.{Status}
 use Rattle.bm_top.specs.declared.status.Status.TheVariants.{Done, OutOfMemory, DataFault, DataShort, DataLong, RackFault, NoDisks}
 use Rattle.bm_top.specs.declared.status.Status.TheVariants.{WrongDims, Exists, SinkFault}
-use Rattle.bm_kind_call.specs.Kinds.{plan_of, kinded, AreSums, KindStands}
+use Rattle.bm_kind_call.specs.Kinds.{walsh_passes, kinded, AreSums, KindStands}
 
 -- A task of this shape. Of the task of a carry what follows cites no more than the shape: the disks, the input, and why an answer comes.
 abbrev pub shape_task : Shape → Task
@@ -49,7 +49,7 @@ pub record KindDone (t : Tells) (file : KindFile) (old new : Devices) : Type 0 w
   pub ended : IsTrue t.input → new.input.left ≡ []
   pub records : TellsAll t → new.out.taken ≡ old.out.taken ++ kinded file old.input.left
   pub sums : AreSums file old.input.left
-  pub moves : new.rack.moves ≡ raised old.rack.moves (2 * stripes file.shape * (plan_of file.shape + 1))
+  pub moves : new.rack.moves ≡ raised old.rack.moves (2 * stripes file.shape * (walsh_passes file.shape + 1))
   pub after : TellsRack t → KindStands file.shape new.rack
 
 -- At each exit: what was written is a front of the records. Nothing is written before the input was read to its end and held N records. No
@@ -72,7 +72,7 @@ pub record KindLeaves (t : Tells) (file : KindFile) (old : Devices) (answer : St
   pub exists : answer ≡ Exists → NoSession old.rack new.rack
   -- want of memory leaves the disks, or new ones of zeros
   pub memory : answer ≡ OutOfMemory → SameOrNewDisks t.stands t.contents (dims_of file.shape) old.rack new.rack
-  pub moves : MovesFew (2 * stripes file.shape * (plan_of file.shape + 1)) old.rack new.rack
+  pub moves : MovesFew (2 * stripes file.shape * (walsh_passes file.shape + 1)) old.rack new.rack
 
 -- What the call does once its text is read. Its answers come by the causes of a carry of the shape, and it is Done where that would be.
 pub record KindCall (t : Tells) (file : KindFile) (old : Devices) (answer : Status) (new : Devices) : Type 0 where

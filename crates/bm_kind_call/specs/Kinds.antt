@@ -19,25 +19,25 @@ use Rattle.bm_kinds.specs.OnBits.{word, kernel_over}
 use Rattle.bm_kindjob.specs.declared.kind_file.KindFile.{KindFile}
 use Rattle.bm_kindjob.specs.declared.kind_names.KindName.{KindName}
 use Rattle.bm_kindjob.specs.declared.kind_names.KindName.TheVariants as name
-use Rattle.bm_kindjob.specs.KindRun.{IsWorkUnit}
+use Rattle.bm_kindjob.specs.KindRun.{IsWorkBlock}
 use Rattle.bm_top.specs.Moment.{Tells, TellsRack}
 
 -- ---- what it makes
 
 -- the kind of a name
-abbrev pub kind_of : KindName → Kind
-kind_of name.WalshBits = WalshBits
-kind_of name.Sums = Sums
-kind_of name.Differences = Differences
-kind_of name.Xors = Xors
+abbrev pub named_kind : KindName → Kind
+named_kind name.WalshBits = WalshBits
+named_kind name.Sums = Sums
+named_kind name.Differences = Differences
+named_kind name.Xors = Xors
 
 -- the passes of its plan, which are those of the Walsh-Hadamard transform
-abbrev pub plan_of : Shape → ℕ
-plan_of s = passes_of s Walsh
+abbrev pub walsh_passes : Shape → ℕ
+walsh_passes s = passes_of s Walsh
 
 -- the records that a transform makes of these
 abbrev pub transform_of : KindFile → (ℕ → List ℕ) → ℕ → List ℕ
-transform_of file = kernel_over (pairing (kind_of file.kind)) file.shape.n file.set
+transform_of file = kernel_over (pairing (named_kind file.kind)) file.shape.n file.set
 
 -- the bytes of those that it makes of the bytes of an input, cut into records, in order of address
 abbrev pub kinded : KindFile → List ℕ → List ℕ
@@ -47,7 +47,7 @@ kinded file bytes = bytes_of (2 ^ file.shape.n) (transform_of file (record_in fi
 abbrev pub AreSums : KindFile → List ℕ → Type 0
 AreSums file bytes = (k : ℕ) → k < 2 ^ file.shape.n
     → word (transform_of file (record_in file.shape bytes) k)
-    ≡ transformed (kind_of file.kind) file.shape.n file.set (λ x. word (record_in file.shape bytes x)) k
+    ≡ transformed (named_kind file.kind) file.shape.n file.set (λ x. word (record_in file.shape bytes x)) k
 
 -- ---- a run
 
@@ -56,7 +56,7 @@ AreSums file bytes = (k : ℕ) → k < 2 ^ file.shape.n
 pub record KindRan (t : Tells) (file : KindFile) (passes : ℕ) (old : RackView) (result : Result ℕ Failed) (new : RackView) : Type 0 where
   pub records : IsTrue t.contents → OnOk result (SameRecords (2 ^ file.shape.n)
       (record_at new.contents file.shape (area_after passes)) (transform_of file (input_of old.contents file.shape)))
-  pub only : ChangesOnly (IsWorkUnit file.shape) old new
+  pub only : ChangesOnly (IsWorkBlock file.shape) old new
   pub sound : TellsRack t → InEveryImage HasClosedJob old → IsSound old → IsSound new
   pub moved : MovesRows (2 * stripes file.shape * passes) (IsOk result) old new
   pub keeps : Keeps old new
@@ -68,4 +68,4 @@ pub record KindStands (s : Shape) (new : RackView) : Type 0 where
   pub load_gate : HasOpenLoad new.contents
   pub load_body : HasLoadBody s new.contents
   pub job_gate : HasClosedJob new.contents
-  pub clean : (u : RackUnit) → ¬ IsWorkUnit s u → new.dirty u ≡ false
+  pub clean : (u : RackUnit) → ¬ IsWorkBlock s u → new.dirty u ≡ false

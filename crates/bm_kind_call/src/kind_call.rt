@@ -11,7 +11,7 @@ ghost use Rattle.bm_top.specs.StatusWords.{line_of};
 ghost use Rattle.bm_top.specs.commands.Carry.{IsMadeFrom, IsLoadedFrom};
 ghost use Rattle.bm_kind_call.specs.Exits.{KindCall, shape_task};
 ghost use Rattle.bm_kind_call.specs.KindTop.{KindOnJob, KindTop};
-ghost use Rattle.bm_kind_call.specs.Kinds.{plan_of};
+ghost use Rattle.bm_kind_call.specs.Kinds.{walsh_passes};
 ghost use Rattle.bm_kind_call.specs.Texts.{FileFits};
 
 use crate::named_run::run_named;
@@ -36,7 +36,7 @@ fn kind_loaded<R: Rack, K: Sink>(
     requires attached { (R.view rack.old).attached ≡ Some (dims_of file.now.shape) }
     requires file { FileFits file.now }
     requires plan { plan.now.shape ≡ file.now.shape }
-    requires passes { length plan.now.forms ≡ plan_of file.now.shape }
+    requires passes { length plan.now.forms ≡ walsh_passes file.now.shape }
     requires fits { FitsShape file.now.shape bufs.old }
     ensures { (t : Tells) (d : Devices) (old : Devices) → IsLoadedFrom
         (record t { out = K.tells; stands = R.tells_stands; contents = R.tells_contents })
@@ -68,7 +68,7 @@ fn kind_attached<R: Rack, S: Source, K: Sink>(
     requires attached { (R.view rack.old).attached ≡ Some (dims_of file.now.shape) }
     requires file { FileFits file.now }
     requires plan { plan.now.shape ≡ file.now.shape }
-    requires passes { length plan.now.forms ≡ plan_of file.now.shape }
+    requires passes { length plan.now.forms ≡ walsh_passes file.now.shape }
     requires fits { FitsShape file.now.shape bufs.old }
     ensures { (t : Tells) (old : Devices) → IsMadeFrom
         (record t {
@@ -109,7 +109,7 @@ fn kind_on_disks<R: Rack, S: Source, K: Sink>(
 ) -> Status
     requires file { FileFits file.now }
     requires plan { plan.now.shape ≡ file.now.shape }
-    requires passes { length plan.now.forms ≡ plan_of file.now.shape }
+    requires passes { length plan.now.forms ≡ walsh_passes file.now.shape }
     requires fits { FitsShape file.now.shape bufs.old }
     ensures { (t : Tells) (d : Devices) → KindCall
         (record t {

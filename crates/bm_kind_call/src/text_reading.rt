@@ -7,16 +7,11 @@ ghost use Rattle.bm_top.specs.Moment.{source_of};
 ghost use Rattle.bm_top.specs.Status.{IsBeforeTask};
 ghost use Rattle.bm_kind_call.specs.Texts.{FileFits, HoldsFile, IsSetFault, TextCause, TextRead};
 
-use bm_base::MOST_TEXT_BYTES;
-use bm_disks::{FillError, fill};
 use bm_jobfile::JobError;
 use bm_kindjob::{KindFile, read_kind};
 use bm_rack::Source;
-use bm_top::Status;
+use bm_top::{Status, job_text};
 use std::alloc::Global;
-
-// The bytes that are asked for of a job source: one more than a job text has at most.
-const JOB_ROOM: usize = MOST_TEXT_BYTES + 1;
 
 // The file of a text, or why it is refused.
 fn file_of(alloc: Global, text: &[u8]) -> Result<KindFile, Status>
@@ -36,29 +31,7 @@ fn file_of(alloc: Global, text: &[u8]) -> Result<KindFile, Status>
     }
 }
 
-// The file that a source holds, read through a buffer, or why it is refused.
-fn file_through<J: Source>(alloc: Global, job: &mut J, text: &mut [u8]) -> Result<KindFile, Status>
-    requires { length text.old ≡ 65537 }
-    ensures file { IfOk result (λ file. HoldsFile J.tells
-        (source_of (J.left job.old) (J.faults job.old)) file) }
-    ensures fits { IfOk result (λ file. FileFits file) }
-    ensures refusal { IfErr result (λ status. IsBeforeTask status) }
-    ensures refused { IfErr result (λ status. TextRead J.tells
-        (source_of (J.left job.old) (J.faults job.old)) status
-        (source_of (J.left job.new) (J.faults job.new))) }
-    ensures ended { IsTrue J.tells → IsOk result
-        → (J.left job.new ≡ []) × (length (J.left job.old) ≤ 65536) }
-    ensures faults { J.faults job.old ≤ J.faults job.new }
-{
-    match fill(job, text) {
-        Ok(()) => Err(Status::JobText),
-        Err(FillError::Fault) => Err(Status::JobFault),
-        Err(FillError::Short { got }) => file_of(alloc, &text[..got]),
-    }
-}
-
-/// Reads the file that a source holds, or says why it is refused. No more than `JOB_ROOM` bytes are
-/// read.
+/// Reads the file that a source holds, or says why it is refused. No more than 65537 bytes are read.
 pub fn read_file<J: Source>(alloc: Global, job: &mut J) -> Result<KindFile, Status>
     ensures file { IfOk result (λ file. HoldsFile J.tells
         (source_of (J.left job.old) (J.faults job.old)) file) }
@@ -71,8 +44,8 @@ pub fn read_file<J: Source>(alloc: Global, job: &mut J) -> Result<KindFile, Stat
         → (J.left job.new ≡ []) × (length (J.left job.old) ≤ 65536) }
     ensures faults { J.faults job.old ≤ J.faults job.new }
 {
-    let Ok(mut text) = vec![in alloc; 0u8; JOB_ROOM] else {
-        return Err(Status::OutOfMemory);
-    };
-    file_through(alloc, job, &mut text)
+    match job_text(alloc, job) {
+        Ok(text) => file_of(alloc, &text),
+        Err(status) => Err(status),
+    }
 }

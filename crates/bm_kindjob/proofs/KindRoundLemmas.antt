@@ -1,24 +1,20 @@
 -- Rounds in order do a pairing on each bit of a set.
-use Rattle.std.proofs.Common.{ℕ, zero, suc, ◌≡◌, ◌+◌, ◌-◌, ◌*◌, ◌/◌, ◌%◌, ◌^◌, ◌<◌, ◌≤◌, List, [], ◌∷◌, ◌++◌, length, refl, sym, ap, ◌∙◌}
+use Rattle.std.proofs.Common.{ℕ, zero, suc, ◌≡◌, ◌+◌, ◌-◌, ◌*◌, ◌/◌, ◌^◌, ◌<◌, ◌≤◌, List, [], ◌∷◌, ◌++◌, length, refl, sym, ap, ◌∙◌}
 use Rattle.std.proofs.Common.{subst, arith}
 use Rattle.std.proofs.lemmas.Nat.{shr-shr}
 use Rattle.std.proofs.Math.Nat.{div-one}
 use Rattle.bm_base.specs.declared.shape.Shape.{Shape}
 use Rattle.bm_base.specs.Butterfly.{butterflies}
-use Rattle.bm_gf2.specs.declared.affine.Affine.{Affine}
-use Rattle.bm_gf2.specs.Matrix.{column}
 use Rattle.bm_forms.specs.declared.pass_form.PassForm.{PassForm}
 use Rattle.bm_forms.specs.Permutation.{permuted}
 use Rattle.bm_forms.specs.Plan.{all_passed}
 use Rattle.bm_forms.specs.Rounds.{rounds_of, last_bits}
 use Rattle.bm_forms.specs.PassCount.{rotation_passes}
 use Rattle.bm_forms.proofs.PassCountLemmas.{passes-some}
-use Rattle.bm_forms.proofs.RotationLemmas.{is_rotation}
-use Rattle.bm_forms.proofs.RoundLemmas.{IsRotation}
 use Rattle.bm_forms.specs.Rounds.{rotation_columns}
 use Rattle.bm_factor.specs.Factoring.{AreWithoutButterflies}
-use Rattle.bm_walsh.specs.Rounds.{IsRotationBy, first_with, AppendsRound, AreWholeRounds, AreRounds}
-use Rattle.bm_walsh.proofs.RoundsLemmas.{last_some}
+use Rattle.bm_walsh.specs.Rounds.{first_with, AppendsRound, AreWholeRounds, AreRounds}
+use Rattle.bm_walsh.proofs.RoundsLemmas.{last_some, rotation_is}
 use Rattle.bm_kinds.specs.OnBits.{kernel_over}
 use Rattle.bm_kindjob.specs.KindPasses.{kind_passed, kinds_passed, DoKinds}
 use Rattle.bm_kindjob.proofs.TurnLemmas.{Turned, turned_over, turned_more, turned_none, turned_all, turned_same}
@@ -98,14 +94,6 @@ pub record HaveDone (n by : ℕ) (forms : List PassForm) : Type 0 where
 have_none : (n : ℕ) → HaveDone n 0 []
 unfolding kernel_over kinds_passed bits_passed
 have_none n = record { bits = refl; turned = λ f set xs. turned_none n xs }
-
--- the rotation as a map
-rotation_is : (n by : ℕ) (f : Affine) → IsRotationBy n by f → by ≤ n → IsRotation n by f
-rotation_is n by f r l =
-    subst (λ (k : ℕ). IsRotation k by f) r.size
-    (is_rotation f by (subst (λ (k : ℕ). by ≤ k) (sym r.size) l) r.constant
-    (λ j h. subst (λ (k : ℕ). column f.a j ≡ 2 ^ ((j + k - by) % k)) (sym r.size)
-    (r.columns j (subst (λ (k : ℕ). j < k) r.size h))))
 
 -- one round more
 have_more : (s : Shape) (by done : ℕ) (old new : List PassForm) → AppendsRound s by old new → HaveDone s.n done old → done + by ≤ s.n

@@ -5,10 +5,8 @@ use Rattle.std.specs.List.{refill}
 use Rattle.std.proofs.Common.{length}
 use Rattle.bm_base.proofs.CaseLemmas.{refill_all}
 use Rattle.std.specs.Int.{bit_at}
-use Rattle.std.specs.Int.Bits.{xor_shifted, xor_assoc}
 use Rattle.std.proofs.lemmas.Bool.{cases_lt}
 use Rattle.std.proofs.lemmas.Nat.{pow-add}
-use Rattle.std.proofs.lemmas.Nat.Bits.{bit_at_cat_low}
 use Rattle.std.proofs.Math.Nat.{mul_comm}
 use Rattle.bm_base.specs.declared.shape.Shape.{Shape}
 use Rattle.bm_base.specs.declared.area.Area.{Area}
@@ -23,6 +21,7 @@ use Rattle.bm_forms.specs.Permutation.{permuted}
 use Rattle.bm_forms.proofs.PermutationLemmas.{permuted-unique}
 use Rattle.bm_bufs.specs.declared.placing.Placing.{Placing}
 use Rattle.bm_bufs.specs.Places.{places_by}
+use Rattle.bm_butter.proofs.KernelLemmas.{kernel_on-block}
 use Rattle.bm_rack.specs.RackView.{RackView}
 use Rattle.bm_rack.specs.Frames.{ChangesOnly}
 use Rattle.bm_stripe.proofs.UnitLemmas.{record_at-outside}
@@ -31,25 +30,12 @@ use Rattle.bm_pass.specs.LoadMove.{IsTargetUnit}
 use Rattle.bm_pass.proofs.LoadLemmas.{SendsToTargets}
 use Rattle.bm_pass.proofs.PassLemmas.{targets_apart}
 use Rattle.bm_pass.proofs.PlaceLemmas.{place_below}
-use Rattle.bm_kinds.specs.OnBits.{word, kernel_on, kernel_over}
-use Rattle.bm_kinds.proofs.OnBitLemmas.{flip, flip_below, bit_by, kernel_on-same}
+use Rattle.bm_kinds.specs.OnBits.{kernel_over}
+use Rattle.bm_kinds.proofs.OnBitLemmas.{bit_by}
 use Rattle.bm_kinds.proofs.OverLemmas.{kernel_over-left, kernel_over-taken, kernel_over-same}
 use Rattle.bm_kindjob.specs.ListMove.{ListMoved, ListsMoved}
 
 -- ---- pairings within a load
-
--- a bit of an address within a block
-block_flip : (a m t i : ℕ) → t < 2 ^ m → i < m → flip (a * 2 ^ m + t) i ≡ a * 2 ^ m + flip t i
-block_flip a m t i short inside =
-    ap (λ (c : ℕ). flip c i) (sym (xor_shifted a m t short)) ∙ xor_assoc (a * 2 ^ m) t (2 ^ i)
-    ∙ xor_shifted a m (flip t i) (flip_below m t i short inside)
-
--- one bit
-on_block : (f : ℕ → ℕ → ℕ × ℕ) (i m a : ℕ) (xs ys : ℕ → List ℕ) → i < m → ((t : ℕ) → t < 2 ^ m → xs (a * 2 ^ m + t) ≡ ys t)
-    → (t : ℕ) → t < 2 ^ m → kernel_on f i xs (a * 2 ^ m + t) ≡ kernel_on f i ys t
-on_block f i m a xs ys inside same t short =
-    kernel_on-same f i i xs ys (a * 2 ^ m + t) t (bit_at_cat_low a m t i inside) (ap word (same t short))
-    (ap (λ (c : ℕ). word (xs c)) (block_flip a m t i short inside) ∙ ap word (same (flip t i) (flip_below m t i short inside)))
 
 -- the bits of a set
 over_block : (f : ℕ → ℕ → ℕ × ℕ) (low set m a : ℕ) (xs ys : ℕ → List ℕ) → low ≤ m → ((t : ℕ) → t < 2 ^ m → xs (a * 2 ^ m + t) ≡ ys t)
@@ -62,7 +48,7 @@ over_block f (suc i) set m a xs ys fewer same t short =
     (λ (p : bit_at set i ≡ 0). ap (λ (zs : ℕ → List ℕ). zs (a * 2 ^ m + t)) (kernel_over-left f i set xs p) ∙ before t short
     ∙ sym (ap (λ (zs : ℕ → List ℕ). zs t) (kernel_over-left f i set ys p)))
     (λ (p : bit_at set i ≡ 1). ap (λ (zs : ℕ → List ℕ). zs (a * 2 ^ m + t)) (kernel_over-taken f i set xs p)
-    ∙ on_block f i m a (kernel_over f i set xs) (kernel_over f i set ys) (omega arith) before t short
+    ∙ kernel_on-block f i m a (kernel_over f i set xs) (kernel_over f i set ys) (omega arith) before t short
     ∙ sym (ap (λ (zs : ℕ → List ℕ). zs t) (kernel_over-taken f i set ys p)))
 
 -- ---- one load

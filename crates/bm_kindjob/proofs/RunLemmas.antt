@@ -1,16 +1,16 @@
 -- Passes in order, with a pairing on parts of a set.
-use Rattle.std.proofs.Common.{◌≡◌, ◌≢◌, inl, inr, ℕ, zero, suc, ◌+◌, ◌-◌, ◌*◌, ◌/◌, ◌%◌}
+use Rattle.std.proofs.Common.{◌≡◌, inl, inr, ℕ, zero, suc, ◌+◌, ◌-◌, ◌*◌, ◌/◌, ◌%◌}
 use Rattle.std.proofs.Common.{◌^◌, ◌<◌, ◌≤◌, List, [], ◌∷◌, length, take, take_all, slice_index_or, refl, sym}
 use Rattle.std.proofs.Common.{ap, ◌∙◌, subst, arith}
-use Rattle.std.proofs.lemmas.Bool.{cases_eq, eq-eqb, ne_eqb}
+use Rattle.std.proofs.lemmas.Bool.{cases_eq}
 use Rattle.std.proofs.lemmas.Nat.{shr-shr, pow_pos}
 use Rattle.std.proofs.lemmas.Nat.Bits.{bit_at_above}
 use Rattle.std.proofs.Math.Nat.{div-one, mod-lt, mul-le-mul_right, add-mul, mul_comm}
 use Rattle.bm_base.specs.declared.shape.Shape.{Shape}
-use Rattle.bm_base.specs.declared.area.Area.TheVariants.{Input, One, Two}
 use Rattle.bm_base.specs.Area.{area_after}
 use Rattle.bm_base.specs.Contents.{Contents, RackUnit}
 use Rattle.bm_base.specs.Records.{SameRecords, record_at}
+use Rattle.bm_base.proofs.AreaLemmas.{area_odd, area_even}
 use Rattle.bm_gf2.proofs.VectorLemmas.{bit_of_low}
 use Rattle.bm_forms.specs.declared.pass_form.PassForm.{PassForm}
 use Rattle.bm_forms.specs.Permutation.{permuted}
@@ -19,41 +19,16 @@ use Rattle.bm_stripe.specs.Units.{IsAreaUnit}
 use Rattle.bm_kinds.specs.OnBits.{kernel_over}
 use Rattle.bm_kinds.proofs.OverLemmas.{kernel_over-left, kernel_over-bits, kernel_over-same}
 use Rattle.bm_kindjob.specs.KindPasses.{kind_passed, kinds_passed}
-use Rattle.bm_kindjob.specs.KindRun.{IsWorkUnit}
+use Rattle.bm_kindjob.specs.KindRun.{IsWorkBlock}
 use Rattle.bm_kindjob.proofs.KindRoundLemmas.{bits_passed, rounds_do_kinds}
 use Rattle.bm_forms.specs.Plan.{PlanValue}
 use Rattle.bm_kindjob.specs.KindPlan.{IsKindPlan}
 
 -- ---- areas
 
-area_odd : (i : ℕ) → i % 2 ≡ 1 → area_after i ≡ One
-area_odd i odd = rw (ne_eqb i 0 (λ e. omega (arith, e, odd)), eq-eqb (i % 2) 1 odd) refl
-
-area_even : (i : ℕ) → i ≢ 0 → i % 2 ≢ 1 → area_after i ≡ Two
-area_even i some even = rw (ne_eqb i 0 some, ne_eqb (i % 2) 1 even) refl
-
-one_input : ¬ (One ≡ Input)
-one_input e = cc
-
-two_input : ¬ (Two ≡ Input)
-two_input e = cc
-
-one_two : ¬ (One ≡ Two)
-one_two e = cc
-
--- a pass writes another area than it reads
-pub areas_apart : (i : ℕ) → area_after i ≢ area_after (i + 1)
-areas_apart i e = elim (cases_eq ((i + 1) % 2) 1) [
-  | inl odd ↦ elim (cases_eq i 0) [
-    | inl none ↦ one_input (sym (area_odd (i + 1) odd) ∙ sym e ∙ ap area_after none)
-    | inr some ↦ one_two (sym (area_odd (i + 1) odd) ∙ sym e ∙ area_even i some (λ z. omega (arith, z, odd)))
-  ]
-  | inr even ↦ one_two (sym (area_odd i (omega (arith, even))) ∙ e ∙ area_even (i + 1) (λ z. omega (arith, z)) even)
-]
-
--- and one of the areas that passes write
-pub IsWorkUnit-target : (s : Shape) (i : ℕ) (u : RackUnit) → IsAreaUnit s (area_after (i + 1)) u → IsWorkUnit s u
-IsWorkUnit-target s i u is = elim (cases_eq ((i + 1) % 2) 1) [
+-- a pass writes one of the two work areas
+pub IsWorkBlock-target : (s : Shape) (i : ℕ) (u : RackUnit) → IsAreaUnit s (area_after (i + 1)) u → IsWorkBlock s u
+IsWorkBlock-target s i u is = elim (cases_eq ((i + 1) % 2) 1) [
   | inl odd ↦ inl (subst (λ a. IsAreaUnit s a u) (area_odd (i + 1) odd) is)
   | inr even ↦ inr (subst (λ a. IsAreaUnit s a u) (area_even (i + 1) (λ z. omega (arith, z)) even) is)
 ]

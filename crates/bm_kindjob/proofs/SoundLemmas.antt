@@ -12,14 +12,14 @@ use Rattle.bm_stripe.specs.Units.{IsAreaUnit}
 use Rattle.bm_control.specs.Pages.{HasClosedJob}
 use Rattle.bm_control.specs.Sound.{IsSound}
 use Rattle.bm_control.proofs.SoundLemmas.{one_size}
-use Rattle.bm_kindjob.specs.KindRun.{IsWorkUnit}
+use Rattle.bm_kindjob.specs.KindRun.{IsWorkBlock}
 
 -- a page is none of these blocks, and neither is a block of the input
-pub work_no_page : (s : Shape) (page : ℕ) → ¬ IsWorkUnit s (page_unit page)
+pub work_no_page : (s : Shape) (page : ℕ) → ¬ IsWorkBlock s (page_unit page)
 work_no_page s page is = ⊎_elim (λ (w : IsAreaUnit s One (page_unit page)). absurd w) (λ (w : IsAreaUnit s Two
     (page_unit page)). absurd w) is
 
-pub input_no_work : (s : Shape) (u : RackUnit) → IsInputUnit (dims_of s) u → ¬ IsWorkUnit s u
+pub input_no_work : (s : Shape) (u : RackUnit) → IsInputUnit (dims_of s) u → ¬ IsWorkBlock s u
 input_no_work s (page_unit page) input is = absurd input
 input_no_work s (block_unit disk place) input is =
     ⊎_elim (λ (w : IsAreaUnit s One (block_unit disk place)). absurd (omega (arith, w.0, input)))
@@ -31,7 +31,7 @@ with_pages old image = record { disks = old.disks; pages = image.pages }
 
 -- they are an image of before
 image_before : (s : Shape) (old new : RackView) (dims : Dims) (image : Contents) → HasSizes dims old.contents
-    → ChangesOnly (IsWorkUnit s) old new
+    → ChangesOnly (IsWorkBlock s) old new
     → IsImage dims new image → IsImage dims old (with_pages old.contents image)
 image_before s old new dims image sizes only i = record {
   sizes = record { disks = sizes.disks; places = sizes.places; block = sizes.block; pages = i.sizes.pages; page = i.sizes.page };
@@ -44,7 +44,7 @@ image_before s old new dims image sizes only i = record {
 
 pub sound_work : (s : Shape) (tells_stands tells_contents : Bool) (old new : RackView) → IsTrue tells_stands → IsTrue tells_contents
     → IsWellFormed tells_stands tells_contents old → old.attached ≡ Some (dims_of s)
-    → ChangesOnly (IsWorkUnit s) old new → InEveryImage HasClosedJob old → IsSound old → IsSound new
+    → ChangesOnly (IsWorkBlock s) old new → InEveryImage HasClosedJob old → IsSound old → IsSound new
 sound_work s tells_stands tells_contents old new told_stands told well attached only closed sound =
     let stands : old.stands ≡ Some (dims_of s) = well.attached told_stands (dims_of s) attached in
     record {

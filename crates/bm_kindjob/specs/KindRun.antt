@@ -6,5 +6,5 @@ use Rattle.bm_base.specs.Contents.{RackUnit}
 use Rattle.bm_stripe.specs.Units.{IsAreaUnit}
 
 -- a block of one of the areas that passes write
-abbrev pub IsWorkUnit : Shape → RackUnit → Type 0
-IsWorkUnit s u = IsAreaUnit s One u ⊎ IsAreaUnit s Two u
+abbrev pub IsWorkBlock : Shape → RackUnit → Type 0
+IsWorkBlock s u = IsAreaUnit s One u ⊎ IsAreaUnit s Two u

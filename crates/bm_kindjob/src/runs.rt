@@ -12,7 +12,7 @@ ghost use Rattle.bm_control.specs.Pages.{HasClosedJob};
 ghost use Rattle.bm_control.specs.Sound.{IsSound};
 ghost use Rattle.bm_kinds.specs.OnBits.{word, kernel_over};
 ghost use Rattle.bm_kinds.specs.Kinds.{Kind, pairing, transformed};
-ghost use Rattle.bm_kindjob.specs.KindRun.{IsWorkUnit};
+ghost use Rattle.bm_kindjob.specs.KindRun.{IsWorkBlock};
 
 use crate::plans::KindPlan;
 use crate::whole_pass::kind_pass;
@@ -58,7 +58,7 @@ pub fn run_kind<K: Kernel, R: Rack>(
         (area_after (length plan.now.forms)) k)
         ≡ transformed kind shape.now.n set
         (λ x. word (record_at (R.view rack.old).contents shape.now Input x)) k) }
-    ensures only { ChangesOnly (IsWorkUnit shape.now) (R.view rack.old) (R.view rack.new) }
+    ensures only { ChangesOnly (IsWorkBlock shape.now) (R.view rack.old) (R.view rack.new) }
     ensures sound { IsTrue R.tells_stands → IsTrue R.tells_contents
         → InEveryImage HasClosedJob (R.view rack.old)
         → IsSound (R.view rack.old) → IsSound (R.view rack.new) }

@@ -1,26 +1,10 @@
 //! Sets of address bits that are given as lists.
 
-ghost use Rattle.std.specs.Prelude.{◌≡◌, ◌≢◌, ℕ, ◌^◌, ◌<◌, ◌≤◌, length, slice_index, MatchOption, IfOk, IfErr};
+ghost use Rattle.std.specs.Prelude.{◌≡◌, ◌^◌, ◌<◌, ◌≤◌, length, slice_index, IfOk, IfErr};
 ghost use Rattle.bm_kinds.specs.OnBits.{set_of, AreBits};
 ghost use Rattle.bm_kindjob.specs.SetList.{SetFaultIs};
 
-use bm_named::MapFault;
-
-// The entry before entry j that is the same, if there is one.
-fn earlier(list: &[u8], j: usize) -> Option<u8>
-    requires inside { j < length list.now }
-    requires few { j < 256 }
-    ensures { MatchOption result
-        ((i : ℕ) → i < j → slice_index list.now i ≢ slice_index list.now j)
-        (λ i. (i < j) × (slice_index list.now i ≡ slice_index list.now j)) }
-{
-    for i in 0..j {
-        if list[i] == list[j] {
-            return Some(i as u8);
-        }
-    }
-    None
-}
+use bm_named::{MapFault, earlier};
 
 /// The set of the bits of a list, or the first fault of the list: entry j is no bit of n, or the
 /// same as an earlier one.
@@ -37,7 +21,7 @@ pub fn set_of_list(n: u8, list: &[u8]) -> Result<u64, MapFault>
         if bit >= n {
             return Err(MapFault::Range { i: j as u8 });
         }
-        if let Some(i) = earlier(list, j) {
+        if let Some(i) = earlier(list, j as u8) {
             return Err(MapFault::Twice { i, j: j as u8 });
         }
         set |= 1 << bit;

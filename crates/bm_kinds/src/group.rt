@@ -7,7 +7,8 @@ ghost use Rattle.bm_butter.specs.Records.{record_in_order};
 ghost use Rattle.bm_butter.specs.OnBits.{word, kernel_on, kernel_digits};
 ghost use Rattle.bm_kinds.specs.Groups.{corner, AreInside, AreApart};
 
-use bm_butter::{Kernel, number_at, set_number};
+use bm_base::number_at;
+use bm_butter::{Kernel, set_number};
 
 // The numbers of the largest group, which has three bits.
 const GROUP: usize = 8;

@@ -4,8 +4,8 @@ use Rattle.bm_memrack.specs.declared.mem_source.MemSource.{MemSource}
 use Rattle.bm_memrack.specs.declared.mem_source.SureSource.{SureSource}
 
 -- the bytes that were not given yet
-abbrev pub left_of : MemSource → List ℕ
-left_of s = drop s.unread.at s.unread.bytes.items
+abbrev pub mem_left : MemSource → List ℕ
+mem_left s = drop s.unread.at s.unread.bytes.items
 
 -- the same of a source that never fails
 abbrev pub sure_left : SureSource → List ℕ

@@ -74,11 +74,11 @@ impl Source for MemSource {
     ghost use Rattle.bm_base.specs.Count.{Rose};
     ghost use Rattle.bm_rack.specs.Source.{SourceRead};
     ghost use Rattle.bm_memrack.specs.ToldCall.{IsToldCall};
-    ghost use Rattle.bm_memrack.specs.MemSource.{left_of};
+    ghost use Rattle.bm_memrack.specs.MemSource.{mem_left};
 
     ghost tells = { true };
 
-    ghost left = { left_of };
+    ghost left = { mem_left };
 
     ghost faults = { λ s. s.list.faults };
 
@@ -86,14 +86,14 @@ impl Source for MemSource {
 
     fn read(&mut self, into: &mut [u8]) -> Result<usize, Failed>
         requires { 0 < length into.old }
-        ensures read { SourceRead true (left_of self.old) (length into.old) result
-            into.new (left_of self.new) }
+        ensures read { SourceRead true (mem_left self.old) (length into.old) result
+            into.new (mem_left self.new) }
         ensures faults { self.old.list.faults ≤ self.new.list.faults }
         ensures quiet { IsOk result → self.new.list.faults ≡ self.old.list.faults }
         ensures cause { IsErr result → Rose self.old.list.faults self.new.list.faults }
         ensures told { IsToldCall false (IsErr result) self.old.list self.new.list }
         ensures count { IfOk result
-            (λ k. k ≡ min (min (length into.old) self.old.most) (length (left_of self.old))) }
+            (λ k. k ≡ min (min (length into.old) self.old.most) (length (mem_left self.old))) }
         ensures most { self.new.most ≡ self.old.most }
     {
         if self.list.fails(false) {

@@ -8,11 +8,8 @@ ghost use Rattle.bm_memrack.specs.BlockCopy.{AreOnDisks, BlocksRead, BlocksWritt
 
 use crate::block_copy::{copy_bytes, read_blocks, write_blocks};
 use crate::crash_choice::choose_units;
-use bm_base::{Dims, PAGE_BYTES, SLATE_PAGES};
+use bm_base::{Dims, PAGE_BYTES, SLATE_BYTES, SLATE_PAGES};
 use std::alloc::{AllocError, Global};
-
-// The bytes of a slate.
-const SLATE_BYTES: usize = SLATE_PAGES as usize * PAGE_BYTES;
 
 /// A rack's blocks in one list, disk after disk, its slate in another, and which of them are dirty.
 #[derive(Drop)]

@@ -7,11 +7,11 @@ use Rattle.bm_base.specs.Contents.{HasSizes}
 use Rattle.bm_rack.specs.declared.rack.CreateError.{CreateError}
 use Rattle.bm_rack.specs.declared.rack.CreateError.TheVariants.{Present}
 use Rattle.bm_rack.specs.RackView.{RackView, IsWellFormed}
+use Rattle.bm_rack.specs.Frames.{SameDisks}
 use Rattle.bm_rack.specs.Calls.{CreateAnswer, CreateDone, IsBlank}
 use Rattle.bm_rack.specs.Untold.{untold_contents}
 use Rattle.bm_mirror.specs.TwoSides.{TwoSides, preferred, tells_all, shown, IsLevel, IsMirror}
 use Rattle.bm_mirror.specs.Creating.{IsMade, PreferredCreated, MirrorCreate}
-use Rattle.bm_mirror.specs.Attaching.{HoldsTheSame}
 use Rattle.bm_mirror.specs.Consistent.{told_is}
 use Rattle.bm_mirror.proofs.ShownLemmas.{told_clean, shown_held, shown_left, shown_right}
 use Rattle.bm_mirror.proofs.LevelLemmas.{blank_level, level_kept}
@@ -52,7 +52,7 @@ shown_created ts tc rs rc a f m p s f' m' p' s' facts facts' v w dims r stands c
   dirty = λ bad. (held bad).dirty;
 }
   where
-    held : IsErr r → HoldsTheSame (shown ts tc v a f m p s facts) (shown ts tc w None f' m' p' s' facts')
+    held : IsErr r → SameDisks (shown ts tc v a f m p s facts) (shown ts tc w None f' m' p' s' facts')
     held bad = shown_held ts tc a None f m p s f' m' p' s' facts facts' v w (k.kept bad)
 
 -- a mirror on which something stands
@@ -74,7 +74,7 @@ shown_present {T} ts tc a f m p s f' m' p' s' facts facts' v w dims r present sa
     not_ok : {P : Type 0} → IsOk r → P
     not_ok ok = absurd (false≢true (subst (λ (z : Result T CreateError). IsOk z) present ok))
 
-    held : HoldsTheSame (shown ts tc v a f m p s facts) (shown ts tc w None f' m' p' s' facts')
+    held : SameDisks (shown ts tc v a f m p s facts) (shown ts tc w None f' m' p' s' facts')
     held = shown_held ts tc a None f m p s f' m' p' s' facts facts' v w
         (record { stands = ap (λ z. z.stands) same; contents = ap (λ z. z.contents) same; dirty = ap (λ z. z.dirty) same })
 

@@ -13,7 +13,7 @@ use Rattle.bm_mirror.specs.Healing.{HealedFrom, HealedTo, MirrorHeal, ShowsTheSa
 use Rattle.bm_mirror.specs.Consistent.{told_same}
 use Rattle.bm_mirror.proofs.ShownLemmas.{told_clean, shown_left, shown_right}
 use Rattle.bm_mirror.proofs.LevelLemmas.{contents_same, clean_same, level_kept}
-use Rattle.bm_mirror.proofs.SideLemmas.{both_ways, all_stands, left_stands, right_stands, left_contents, right_contents}
+use Rattle.bm_mirror.proofs.SideLemmas.{both_ways, some_is_not, all_stands, left_stands, right_stands, left_contents, right_contents}
 
 apart_is_not : ◌≡◌ {A = Result Healed HealError} (Ok Apart) (Ok Level) → ⊥
 apart_is_not e = cc
@@ -26,9 +26,6 @@ pub is_level : (r : Result Healed HealError) → (r ≡ Ok Level) ⊎ (¬ (r ≡
 is_level (Ok Level) = inl refl
 is_level (Ok Apart) = inr apart_is_not
 is_level (Err error) = inr (error_is_not error)
-
-some_is_not : (dims : Dims) → Some dims ≡ None → ⊥
-some_is_not dims e = cc
 
 -- a side that was filled is level with the one that it was filled from
 filled_level : (ws wc fs fc ts tc : Bool) (dims : Dims) (was from before to : RackView)

@@ -12,7 +12,7 @@ use Rattle.bm_mirror.specs.TwoSides.{TwoSides, preferred, tells_all, shown, IsMi
 use Rattle.bm_mirror.specs.SideCalls.{SideAsked, SideRead, IsSettled}
 use Rattle.bm_mirror.specs.Consistent.{told_is, untold_is}
 use Rattle.bm_mirror.specs.Lasting.{History, history, IsWell, mirror_facts}
-use Rattle.bm_mirror.proofs.SideLemmas.{both_ways, ok_or_err, left_stands, right_stands}
+use Rattle.bm_mirror.proofs.SideLemmas.{both_ways, some_is_not, ok_or_err, left_stands, right_stands}
 use Rattle.bm_mirror.proofs.LastingLemmas.{IsLater, IsStarved, IsNew, AreLevel, lasting_kept}
 
 -- the count of a mirror after a call, which failed or did not
@@ -88,9 +88,6 @@ later_by_call told old new level lapsed lapsed' starved f f' failed k stays left
   both = both;
 }
 
-some_stands : (dims : Dims) → Some dims ≡ None → ⊥
-some_stands dims e = cc
-
 -- something stands on a mirror that is attached
 pub attached_stands : (ls lc gs gc : Bool) (s : TwoSides) (a : Option Dims) → IsMirror (ls && gs) (tells_all ls gs lc gc) s a
     → IsWellFormed ls lc s.left → IsWellFormed gs gc s.right → IsAttached a → IsTrue (ls && gs)
@@ -98,14 +95,14 @@ pub attached_stands : (ls lc gs gc : Bool) (s : TwoSides) (a : Option Dims) → 
 attached_stands ls lc gs gc s a k left right at told = elim (cases_Bool s.sides.left) [
   | inl is_in ↦
       let is : s.left.stands ≡ Some at.0 = left.attached (left_stands ls gs told) at.0 (k.left_attached is_in at.0 at.1) in (
-        λ none. some_stands at.0 (sym is ∙ sym (ap (λ v. v.stands) (told_is s.sides.left s.left s.right is_in)) ∙ none),
-        λ none. some_stands at.0 (sym is ∙ none.0),
+        λ none. some_is_not at.0 (sym is ∙ sym (ap (λ v. v.stands) (told_is s.sides.left s.left s.right is_in)) ∙ none),
+        λ none. some_is_not at.0 (sym is ∙ none.0),
       )
   | inr out ↦
       let is : s.right.stands ≡ Some at.0 =
       right.attached (right_stands ls gs told) at.0 (k.right_attached (k.some_in out) at.0 at.1) in (
-        λ none. some_stands at.0 (sym is ∙ sym (ap (λ v. v.stands) (untold_is s.sides.left s.left s.right out)) ∙ none),
-        λ none. some_stands at.0 (sym is ∙ none.1),
+        λ none. some_is_not at.0 (sym is ∙ sym (ap (λ v. v.stands) (untold_is s.sides.left s.left s.right out)) ∙ none),
+        λ none. some_is_not at.0 (sym is ∙ none.1),
       )
 ]
 

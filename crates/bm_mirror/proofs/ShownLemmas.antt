@@ -6,14 +6,14 @@ use Rattle.bm_base.specs.declared.dims.Dims.{Dims}
 use Rattle.bm_base.specs.declared.fault.Failed.{Failed}
 use Rattle.bm_base.specs.Contents.{Contents, RackUnit, block_unit, unit_at, block_at}
 use Rattle.bm_rack.specs.RackView.{RackView}
-use Rattle.bm_rack.specs.Frames.{ChangesOnly}
+use Rattle.bm_rack.specs.Frames.{ChangesOnly, SameDisks}
 use Rattle.bm_rack.specs.declared.rack.Found.{Found}
 use Rattle.bm_rack.specs.declared.rack.AttachError.{AttachError}
 use Rattle.bm_rack.specs.Calls.{RowWritten, Synced, InRow, AttachAnswer, attached_after, AttachDone}
 use Rattle.bm_rack.specs.Untold.{untold_contents}
 use Rattle.bm_mirror.specs.TwoSides.{TwoSides, preferred, shown, IsLevel, IsMirror}
 use Rattle.bm_mirror.specs.SideCalls.{IsSettled}
-use Rattle.bm_mirror.specs.Attaching.{HoldsTheSame, AttachedSides}
+use Rattle.bm_mirror.specs.Attaching.{AttachedSides}
 use Rattle.bm_mirror.specs.Consistent.{told_same, told_is, untold_is}
 
 -- a unit of what is shown
@@ -129,7 +129,7 @@ by_settled {T} ts tc old new a a' f m p s f' m' p' s' facts facts' x y r answer 
 
 -- a mirror shows two racks that hold the same alike
 pub shown_held : (ts tc : Bool) (a a' : Option Dims) (f m p s f' m' p' s' : ℕ) (facts facts' : List ℕ → Bool) (v w : RackView)
-    → HoldsTheSame v w → HoldsTheSame (shown ts tc v a f m p s facts) (shown ts tc w a' f' m' p' s' facts')
+    → SameDisks v w → SameDisks (shown ts tc v a f m p s facts) (shown ts tc w a' f' m' p' s' facts')
 shown_held ts tc a a' f m p s f' m' p' s' facts facts' v w x = record {
   stands = told_same ts w.stands v.stands None (λ _. x.stands);
   contents = told_same tc w.contents v.contents untold_contents (λ _. x.contents);
@@ -138,22 +138,22 @@ shown_held ts tc a a' f m p s f' m' p' s' facts facts' v w x = record {
 
 -- a mirror shows the same after a call that took sides out and changed on none what it holds
 pub mirror_held : (ts tc : Bool) (old new : TwoSides) (a a' : Option Dims) (f m p s f' m' p' s' : ℕ) (facts facts' : List ℕ → Bool)
-    → IsMirror ts tc old a → HoldsTheSame old.left new.left → HoldsTheSame old.right new.right
+    → IsMirror ts tc old a → SameDisks old.left new.left → SameDisks old.right new.right
     → (IsFalse new.sides.left → IsTrue new.sides.right)
     → (IsTrue new.sides.left → IsTrue old.sides.left) → (IsTrue new.sides.right → IsTrue old.sides.right)
-    → HoldsTheSame (shown ts tc (preferred old) a f m p s facts) (shown ts tc (preferred new) a' f' m' p' s' facts')
+    → SameDisks (shown ts tc (preferred old) a f m p s facts) (shown ts tc (preferred new) a' f' m' p' s' facts')
 mirror_held ts tc old new a a' f m p s f' m' p' s' facts facts' k left right some_in left_was right_was = elim (cases_Bool new.sides.left) [
   | inl holds ↦
-      subst (λ v. HoldsTheSame v (shown ts tc (preferred new) a' f' m' p' s' facts'))
+      subst (λ v. SameDisks v (shown ts tc (preferred new) a' f' m' p' s' facts'))
       (sym (shown_left ts tc old a f m p s facts (left_was holds)))
-      (subst (λ w. HoldsTheSame (shown ts tc old.left a f m p s facts) w) (sym (shown_left ts tc new a' f' m' p' s' facts' holds))
+      (subst (λ w. SameDisks (shown ts tc old.left a f m p s facts) w) (sym (shown_left ts tc new a' f' m' p' s' facts' holds))
       (shown_held ts tc a a' f m p s f' m' p' s' facts facts' old.left new.left left))
   | inr fails ↦
       let is : shown ts tc (preferred new) a' f' m' p' s' facts' ≡ shown ts tc new.right a' f' m' p' s' facts' =
       ap (λ v. shown ts tc v a' f' m' p' s' facts') (untold_is new.sides.left new.left new.right fails) in
-      subst (λ v. HoldsTheSame v (shown ts tc (preferred new) a' f' m' p' s' facts'))
+      subst (λ v. SameDisks v (shown ts tc (preferred new) a' f' m' p' s' facts'))
       (sym (shown_right ts tc old a f m p s facts k.level (right_was (some_in fails))))
-      (subst (λ w. HoldsTheSame (shown ts tc old.right a f m p s facts) w) (sym is)
+      (subst (λ w. SameDisks (shown ts tc old.right a f m p s facts) w) (sym is)
       (shown_held ts tc a a' f m p s f' m' p' s' facts facts' old.right new.right right))
 ]
 

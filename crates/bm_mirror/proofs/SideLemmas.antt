@@ -1,5 +1,5 @@
 -- What the calls of both sides make of a mirror.
-use Rattle.std.proofs.Common.{◌≡◌, inl, inr, ◌⊎◌, ◌&&◌, Bool, false, IsTrue, IsFalse, Option, Some, Result}
+use Rattle.std.proofs.Common.{◌≡◌, inl, inr, ◌⊎◌, ◌&&◌, Bool, false, IsTrue, IsFalse, Option, Some, None, Result}
 use Rattle.std.proofs.Common.{Ok, Err, IsOk, IsErr, is_err, sym, ◌∙◌, refl}
 use Rattle.std.proofs.lemmas.Bool.{false≢true, cases_Bool, and_parts}
 use Rattle.bm_base.specs.declared.dims.Dims.{Dims}
@@ -35,6 +35,10 @@ sizes_after rs rc dims v w before after stands contents attached same =
 -- a test that is both
 pub both_ways : {P : Type 0} (b : Bool) → IsTrue b → IsFalse b → P
 both_ways b holds fails = absurd (false≢true (sym fails ∙ holds))
+
+-- something is not nothing
+pub some_is_not : (dims : Dims) → Some dims ≡ None → ⊥
+some_is_not dims e = cc
 
 -- a side that is in was in before a call that takes none in
 pub was_in : (before after : Bool) → (IsFalse before → IsFalse after) → IsTrue after → IsTrue before

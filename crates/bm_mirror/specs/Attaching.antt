@@ -4,16 +4,10 @@ use Rattle.bm_base.specs.declared.dims.Dims.{Dims}
 use Rattle.bm_rack.specs.declared.rack.Found.{Found}
 use Rattle.bm_rack.specs.declared.rack.Found.TheVariants.{Ready}
 use Rattle.bm_rack.specs.declared.rack.AttachError.{AttachError}
-use Rattle.bm_rack.specs.RackView.{RackView}
+use Rattle.bm_rack.specs.Frames.{SameDisks}
 use Rattle.bm_rack.specs.Calls.{AttachAnswer}
 use Rattle.bm_mirror.specs.declared.sides.Sides.{Sides}
 use Rattle.bm_mirror.specs.TwoSides.{TwoSides, preferred}
-
--- what stands, the contents and what is dirty are as before
-pub record HoldsTheSame (old new : RackView) : Type 0 where
-  pub stands : new.stands ≡ old.stands
-  pub contents : new.contents ≡ old.contents
-  pub dirty : new.dirty ≡ old.dirty
 
 -- The right side lapses in an attach: it goes out by its answer, with no fault. Both were in and the left one is ready, and what stands is
 -- not told on both.
@@ -25,8 +19,8 @@ pub record Lapses (told : Bool) (result : Result Found AttachError) (was is : Bo
 -- The sides after they were attached in order.
 pub record AttachedSides (told : Bool) (dims : Dims) (result : Result Found AttachError) (old new : TwoSides) : Type 0 where
   -- nothing but what is attached changed on either
-  pub left : HoldsTheSame old.left new.left
-  pub right : HoldsTheSame old.right new.right
+  pub left : SameDisks old.left new.left
+  pub right : SameDisks old.right new.right
   -- one is in at least
   pub some_in : IsFalse new.sides.left → IsTrue new.sides.right
   -- the answer is true of the side that is then asked first

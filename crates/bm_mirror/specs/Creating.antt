@@ -6,9 +6,8 @@ use Rattle.bm_rack.specs.declared.rack.CreateError.{CreateError}
 use Rattle.bm_rack.specs.declared.rack.CreateError.TheVariants.{Failed, Present, OutOfMemory}
 use Rattle.bm_rack.specs.RackView.{RackView, IsClean}
 use Rattle.bm_rack.specs.Calls.{CreateAnswer, IsBlank}
-use Rattle.bm_rack.specs.Frames.{Keeps}
+use Rattle.bm_rack.specs.Frames.{Keeps, SameDisks}
 use Rattle.bm_mirror.specs.TwoSides.{TwoSides}
-use Rattle.bm_mirror.specs.Attaching.{HoldsTheSame}
 
 -- a rack of zeros stands, with nothing dirty
 pub record IsMade (tells_stands tells_contents : Bool) (dims : Dims) (v : RackView) : Type 0 where
@@ -22,7 +21,7 @@ pub record PreferredCreated {T : Type 0} (tells_stands tells_contents : Bool) (d
   pub answer : IsTrue tells_stands → CreateAnswer old.stands result
   pub made : IsOk result → IsMade tells_stands tells_contents dims new
   -- a refusal leaves what it holds
-  pub kept : IsErr result → HoldsTheSame old new
+  pub kept : IsErr result → SameDisks old new
   pub keeps : Keeps old new
   -- the create fails only where this side's count of faults rose
   pub cause : IsErrOf result Failed → Rose old.faults new.faults

@@ -2,11 +2,11 @@
 
 ghost use Rattle.std.specs.Prelude.{◌≡◌, ◌⊎◌, ◌&&◌, IsTrue, IsFalse, Some, Ok, IsErrOf};
 ghost use Rattle.bm_base.specs.Count.{Rose};
-ghost use Rattle.bm_rack.specs.Frames.{Keeps, RaisesCounts};
+ghost use Rattle.bm_rack.specs.Frames.{Keeps, RaisesCounts, SameDisks};
 ghost use Rattle.bm_rack.specs.Calls.{attached_after};
 ghost use Rattle.bm_mirror.specs.TwoSides.{two_sides};
 ghost use Rattle.bm_mirror.specs.SideCalls.{MirrorCall};
-ghost use Rattle.bm_mirror.specs.Attaching.{HoldsTheSame, Lapses, AttachedSides};
+ghost use Rattle.bm_mirror.specs.Attaching.{Lapses, AttachedSides};
 
 use crate::sides::Sides;
 use bm_base::Dims;
@@ -24,7 +24,7 @@ fn attach_second<R: Rack>(
     ensures answer { (result ≡ Ok Found.Ready) ⊎ (result ≡ Err AttachError.OutOfMemory) }
     ensures ready { result ≡ Ok Found.Ready → IsTrue is_in.new
         → (R.view rack.new).attached ≡ Some dims.now }
-    ensures same { HoldsTheSame (R.view rack.old) (R.view rack.new) }
+    ensures same { SameDisks (R.view rack.old) (R.view rack.new) }
     ensures out { IsFalse is_in.new → result ≡ Ok Found.Ready }
     ensures fell { IsFalse is_in.new
         → Rose (R.view rack.old).faults (R.view rack.new).faults

@@ -8,26 +8,16 @@ ghost use Rattle.bm_rack.specs.Frames.{Keeps, SameState, ChangesOnly};
 ghost use Rattle.bm_rack.specs.Calls.{RowFits, place_on, InRow, IsPage};
 ghost use Rattle.bm_mirror.specs.Healing.{IsAtPlace, IsFilled, StaysAttached};
 
-use bm_base::{Dims, MOST_DISKS, PAGE_BYTES, SLATE_PAGES};
-use bm_rack::Rack;
+use bm_base::{Dims, PAGE_BYTES, SLATE_PAGES};
+use bm_rack::{Rack, same_places};
 
-// Why a copy ended: the rack that is read failed, or the one that is written.
+/// Why a copy ended.
 #[derive(Clone, Copy, Debug, PartialEq, Eq)]
 pub enum CopyFault {
+    /// The rack that is read failed.
     Read,
+    /// The rack that is written failed.
     Write,
-}
-
-// One place on each disk that may be.
-fn same_places(place: u64) -> [Option<u64>; MOST_DISKS as usize]
-    ensures length { length result ≡ 64 }
-    ensures each { (disk : ℕ) → disk < 64 → place_on result disk ≡ Some place }
-{
-    let mut places = [None; MOST_DISKS as usize];
-    for disk in 0..MOST_DISKS as usize {
-        places[disk] = Some(place);
-    }
-    places
 }
 
 // Copies the blocks of a row.

@@ -24,11 +24,11 @@ use Rattle.bm_top.proofs.JobCauseLemmas.{not_refused}
 use Rattle.bm_top.proofs.JobReadLemmas.{source_taken}
 use Rattle.bm_top.proofs.TopCallLemmas.{job_known}
 use Rattle.bm_mirror_call.specs.Healing.{HealStops, JobComesIn, ShownAs}
-use Rattle.bm_mirror_call.specs.MirrorCall.{MirrorCall, MirrorTop, TextCall}
+use Rattle.bm_mirror_call.specs.MirrorCall.{CommandCall, MirrorTop, TextCall}
 use Rattle.bm_mirror_call.specs.Seen.{MirrorDevices, MirrorMoment, MirrorSeen, SidesTell}
 use Rattle.bm_mirror_call.specs.Seen.{devices_over, devices_seen, mirror_seen, new_mirror, only}
-use Rattle.bm_mirror_call.specs.Sides.{IsFresh, SidesOf}
-use Rattle.bm_mirror_call.specs.Words.{IsMirror, IsNoMirror}
+use Rattle.bm_mirror_call.specs.Sides.{IsNewMirror, SidesOf}
+use Rattle.bm_mirror_call.specs.Words.{IsMirrorCommand, IsNoMirrorCommand}
 use Rattle.bm_mirror_call.proofs.CommandLemmas.{heard, carried_out}
 use Rattle.bm_mirror_call.proofs.SeenLemmas.{IsSeen}
 use Rattle.bm_mirror_call.proofs.TextLemmas.{read_of_text}
@@ -47,7 +47,7 @@ stop_known answer stops is =
 pub job_made : (t : Tells) (verb : Verb) (text : List ℕ) (old : MirrorMoment) (answer : Status) (new : MirrorMoment)
     → (IsTrue t.job → text ≡ old.job.left) → length text ≤ 65536 → (IsTrue t.job → new.job.left ≡ []) → old.job.faults ≤ new.job.faults
     → TextCall t verb text old.devices answer new.devices → SidesOf t (command.On verb) old.devices answer new.devices
-    → MirrorCall t (command.On verb) old answer new
+    → CommandCall t (command.On verb) old answer new
 job_made t verb text old answer new same short end low call sides = record {
   answered = elim call [
     | inl stops ↦ stop_known answer stops.stops.stops.answer
@@ -74,7 +74,7 @@ job_made t verb text old answer new same short end low call sides = record {
 -- whose source was refused
 pub job_refused : (t : Tells) (verb : Verb) (old : MirrorMoment) (answer : Status) (new : MirrorMoment) → IsBeforeTask answer
     → new.devices ≡ old.devices → JobRead verb t.job old.job answer new.job → SidesOf t (command.On verb) old.devices answer new.devices
-    → MirrorCall t (command.On verb) old answer new
+    → CommandCall t (command.On verb) old answer new
 job_refused t verb old answer new before same read sides = record {
   answered = λ e. absurd (subst IsBeforeTask e before);
   call = record {
@@ -105,7 +105,7 @@ carried t verb words text left rest old new ready answer same is shows calm idle
 
 pub carried_sides : (t : Tells) (verb : Verb) (words : List (String Global)) (read text left rest : List ℕ) (old new : MirrorDevices)
     (mid : MirrorSeen) (answer : Status) → read ≡ text → left ≡ text → IsJobWords words verb → IsSeen t.stands old.mirror
-    → IsSeen t.stands mid → IsSeen t.stands new.mirror → IsFresh old.mirror → ShownAs old.mirror.rack mid.rack
+    → IsSeen t.stands mid → IsSeen t.stands new.mirror → IsNewMirror old.mirror → ShownAs old.mirror.rack mid.rack
     → mid.rack.faults ≡ old.mirror.rack.faults → (¬ Attaches verb → mid.rack ≡ old.mirror.rack)
     → JobComesIn t.stands verb read old.mirror.rack.stands old.mirror.sides mid.sides
     → TopCall (heard t) words (moment_of (source_of left 0) (devices_over old mid.rack)) answer
@@ -129,7 +129,7 @@ not_ready t verb read text old new answer same stops shows input out = inl (reco
 
 -- ---- the whole call
 
-pub top_none : (t : Tells) (words : List (String Global)) (start : Side → MirrorMoment) (new : MirrorMoment) → IsNoMirror words
+pub top_none : (t : Tells) (words : List (String Global)) (start : Side → MirrorMoment) (new : MirrorMoment) → IsNoMirrorCommand words
     → new ≡ start Left → MirrorTop t words start Usage new
 top_none t words start new none same = record {
   usage = (λ is. none, λ is. refl);
@@ -138,13 +138,13 @@ top_none t words start new none same = record {
 }
 
 pub top_call : (t : Tells) (words : List (String Global)) (first : Side) (c : Command) (start : Side → MirrorMoment) (answer : Status)
-    (new : MirrorMoment) → IsMirror words first c → MirrorCall t c (start first) answer new → MirrorTop t words start answer new
+    (new : MirrorMoment) → IsMirrorCommand words first c → CommandCall t c (start first) answer new → MirrorTop t words start answer new
 top_call t words first c start answer new is call = record {
   usage = (λ e. absurd (call.answered e), λ none. absurd (none first c is));
   nothing = λ none. absurd (none first c is);
   call = λ side d also.
-      subst (λ (x : Side). MirrorCall t d (start x) answer new) (one_side words first side is.first also.first)
-      (subst (λ (x : Command). MirrorCall t x (start first) answer new) (one_command (drop 2 words) c d is.rest also.rest) call);
+      subst (λ (x : Side). CommandCall t d (start x) answer new) (one_side words first side is.first also.first)
+      (subst (λ (x : Command). CommandCall t x (start first) answer new) (one_command (drop 2 words) c d is.rest also.rest) call);
 }
 
 -- ---- a new mirror
@@ -164,6 +164,6 @@ pub only_is : (first : Side) (sides : Sides) → (first ≡ Left → (sides.left
 only_is Left sides left right = (let is = left refl in λ i. record { left = is.0 i; right = is.1 i })
 only_is Right sides left right = (let is = right refl in λ i. record { left = is.0 i; right = is.1 i })
 
-pub fresh_is : (t : SidesTell) (left right : RackView) (first : Side) → IsFresh (new_mirror t left right first)
+pub fresh_is : (t : SidesTell) (left right : RackView) (first : Side) → IsNewMirror (new_mirror t left right first)
 fresh_is t left right Left = record { some_in = λ out. absurd (cc); alone = λ _. refl; level = refl; faults = refl }
 fresh_is t left right Right = record { some_in = λ _. refl; alone = λ is. absurd (cc); level = refl; faults = refl }

@@ -22,7 +22,7 @@ use Rattle.bm_top.specs.declared.words.Command.TheVariants.{On}
 use Rattle.bm_top.specs.declared.words.Verb.{Verb}
 use Rattle.bm_mirror_call.specs.Healing.{AreIn, HealStops, JobComesIn, NoneRose, ShownAs}
 use Rattle.bm_mirror_call.specs.Seen.{MirrorSeen}
-use Rattle.bm_mirror_call.specs.Sides.{IsFresh, OthersFollow, SidesAfter}
+use Rattle.bm_mirror_call.specs.Sides.{IsNewMirror, OthersFollow, SidesAfter}
 use Rattle.bm_mirror_call.proofs.HealLemmas.{none_rose_before, none_rose_after}
 use Rattle.bm_mirror_call.proofs.SeenLemmas.{IsSeen, nothing_stands, others_can}
 use Rattle.bm_mirror_call.proofs.SidesLemmas.{lasts, same_in, counts_grow, both_stay, both_made, sides_after}
@@ -39,7 +39,7 @@ risen before after count zero same rose none =
 
 -- a mirror as it was
 pub unchanged : (told : Bool) (t : Tells) (verb : Verb) (answer : Status) (a b : MirrorSeen) → t.stands ≡ told → IsSeen told a
-    → IsSeen told b → IsFresh a → b.rack ≡ a.rack → IsBeforeTask answer → SidesAfter t (On verb) a.sides answer b.sides b.history
+    → IsSeen told b → IsNewMirror a → b.rack ≡ a.rack → IsBeforeTask answer → SidesAfter t (On verb) a.sides answer b.sides b.history
 unchanged told t verb answer a b tells seen_a seen_b fresh same before =
     sides_after told a b seen_a seen_b t (On verb) answer tells fresh
     (lasts told a b seen_a seen_b (subst (Keeps a.rack) (sym same) (Keeps-refl a.rack)))
@@ -49,7 +49,7 @@ unchanged told t verb answer a b tells seen_a seen_b fresh same before =
 
 -- one that could not be made ready
 pub stopped : (told : Bool) (t : Tells) (verb : Verb) (text : List ℕ) (answer : Status) (a b : MirrorSeen) → t.stands ≡ told
-    → IsSeen told a → IsSeen told b → IsFresh a → ShownAs a.rack b.rack → HealStops verb text answer a.rack b.rack
+    → IsSeen told a → IsSeen told b → IsNewMirror a → ShownAs a.rack b.rack → HealStops verb text answer a.rack b.rack
     → SidesAfter t (On verb) a.sides answer b.sides b.history
 stopped told t verb text answer a b tells seen_a seen_b fresh shows stops =
     sides_after told a b seen_a seen_b t (On verb) answer tells fresh (lasts told a b seen_a seen_b shows.keeps)
@@ -71,7 +71,7 @@ pub fault_cause : (t : Tells) (verb : Verb) (task : Task) (old : Devices) (answe
 fault_cause t verb task old answer new is cause = subst (λ (x : Status). CauseOf t verb task old x new) is cause
 
 module _ (t : Tells) (verb : Verb) (text : List ℕ) (answer : Status) (a m b : MirrorSeen) (input new_input : SourceView)
-    (out new_out : SinkView) (seen_a : IsSeen t.stands a) (seen_m : IsSeen t.stands m) (seen_b : IsSeen t.stands b) (fresh : IsFresh a)
+    (out new_out : SinkView) (seen_a : IsSeen t.stands a) (seen_m : IsSeen t.stands m) (seen_b : IsSeen t.stands b) (fresh : IsNewMirror a)
     (shows : ShownAs a.rack m.rack) (calm : m.rack.faults ≡ a.rack.faults) (idle : ¬ Attaches verb → m.rack ≡ a.rack)
     (comes : JobComesIn t.stands verb text a.rack.stands a.sides m.sides) where
   abbrev old : Devices

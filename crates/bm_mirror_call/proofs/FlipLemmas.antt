@@ -1,10 +1,10 @@
 -- The sides of a mirror after a flip.
-use Rattle.std.proofs.Common.{◌≡◌, ◌≢◌, inl, inr, ℕ, ◌*◌, ◌+◌, ◌^◌, nat_lt}
-use Rattle.std.proofs.Common.{nat_le, Bool, true, false, if◌then◌else◌, None, List, String, Global}
+use Rattle.std.proofs.Common.{◌≡◌, inl, inr, None, List, String, Global}
 use Rattle.std.proofs.Common.{sym, ap, subst, ◌∙◌, refl, arith}
-use Rattle.std.proofs.lemmas.Bool.{cases_lt, ltb-false, leb-false}
+use Rattle.std.proofs.lemmas.Bool.{cases_lt}
 use Rattle.bm_base.specs.declared.shape.Shape.{Shape}
-use Rattle.bm_base.specs.ShapeRules.{IsShape, broken_rule}
+use Rattle.bm_base.specs.ShapeRules.{broken_rule}
+use Rattle.bm_base.proofs.EqualLemmas.{is_shape}
 use Rattle.bm_rack.specs.Frames.{Keeps}
 use Rattle.bm_rack.proofs.FrameLemmas.{Keeps-refl}
 use Rattle.bm_top.specs.Moment.{Devices, SourceView, SinkView, Tells, devices_of, moment_of}
@@ -18,47 +18,18 @@ use Rattle.bm_top.specs.declared.status.Status.TheVariants.{JobShape}
 use Rattle.bm_top.specs.declared.words.Command.TheVariants as command
 use Rattle.bm_top.specs.declared.words.Flip.{Flip}
 use Rattle.bm_top.specs.declared.words.Verb.TheVariants.{Carry}
-use Rattle.bm_mirror_call.specs.MirrorCall.{MirrorCall}
+use Rattle.bm_mirror_call.specs.MirrorCall.{CommandCall}
 use Rattle.bm_mirror_call.specs.Seen.{MirrorMoment, MirrorSeen, devices_seen}
-use Rattle.bm_mirror_call.specs.Sides.{IsFresh, SidesAfter}
+use Rattle.bm_mirror_call.specs.Sides.{IsNewMirror, SidesAfter}
 use Rattle.bm_mirror_call.proofs.CommandLemmas.{risen, done_cause, fault_cause}
 use Rattle.bm_mirror_call.proofs.SeenLemmas.{IsSeen, nothing_stands}
 use Rattle.bm_mirror_call.proofs.SidesLemmas.{lasts, both_made, sides_after}
 use Rattle.bm_mirror_call.proofs.VerbLemmas.{made_where}
 
--- ---- numbers that break no rule are a shape's
-
-kept : (test : Bool) (rule rest : ℕ) → rule ≢ 0 → (if test then rule else rest) ≡ 0 → (test ≡ false) × (rest ≡ 0)
-kept true rule rest some is = absurd (some is)
-kept false rule rest some is = (refl, is)
-
-is_shape : (n b d m width : ℕ) → broken_rule n b d m width ≡ 0 → IsShape n b d m width
-is_shape n b d m width none =
-    let addresses = kept (nat_lt 52 n) 1 _ (λ e. omega (arith, e)) none in
-    let disks = kept (nat_lt 6 d) 2 _ (λ e. omega (arith, e)) addresses.1 in
-    let block = kept (nat_le m b) 3 _ (λ e. omega (arith, e)) disks.1 in
-    let stripe = kept (nat_lt m (b + d)) 4 _ (λ e. omega (arith, e)) block.1 in
-    let memory = kept (nat_lt n m) 5 _ (λ e. omega (arith, e)) stripe.1 in
-    let some = kept (nat_lt width 1) 6 _ (λ e. omega (arith, e)) memory.1 in
-    let few = kept (nat_lt 4096 width) 6 _ (λ e. omega (arith, e)) some.1 in
-    let load = kept (nat_lt (2 ^ 30) (2 ^ m * width)) 7 _ (λ e. omega (arith, e)) few.1 in
-    let disk = kept (nat_lt (2 ^ (63 + d)) (3 * 2 ^ n * width)) 9 0 (λ e. omega (arith, e)) load.1 in
-    record {
-      addresses = ltb-false 52 n addresses.0;
-      disks = ltb-false 6 d disks.0;
-      block = leb-false m b block.0;
-      stripe = ltb-false m (b + d) stripe.0;
-      memory = ltb-false n m memory.0;
-      record_some = ltb-false width 1 some.0;
-      record_few = ltb-false 4096 width few.0;
-      load = ltb-false (2 ^ 30) (2 ^ m * width) load.0;
-      disk = ltb-false (2 ^ (63 + d)) (3 * 2 ^ n * width) disk.0;
-    }
-
 -- ---- the sides
 
 module _ (t : Tells) (f : Flip) (answer : Status) (a b : MirrorSeen) (job new_job input new_input : SourceView) (out new_out : SinkView)
-    (seen_a : IsSeen t.stands a) (seen_b : IsSeen t.stands b) (fresh : IsFresh a)
+    (seen_a : IsSeen t.stands a) (seen_b : IsSeen t.stands b) (fresh : IsNewMirror a)
     (call : FlipCall t f (moment_of job (devices_of input out a.rack)) answer (moment_of new_job (devices_of new_input new_out b.rack)))
   where
     abbrev old : Devices
@@ -108,13 +79,13 @@ module _ (t : Tells) (f : Flip) (answer : Status) (a b : MirrorSeen) (job new_jo
 
 pub flip_made : (t : Tells) (words : List (String Global)) (c : Command) (f : Flip) (old : MirrorMoment) (answer : Status)
     (new : MirrorMoment) → c ≡ command.Flip f → IsCommand words c → IsSeen t.stands old.devices.mirror → IsSeen t.stands new.devices.mirror
-    → IsFresh old.devices.mirror
+    → IsNewMirror old.devices.mirror
     → TopCall t words (moment_of old.job (devices_seen old.devices)) answer (moment_of new.job (devices_seen new.devices))
-    → MirrorCall t c old answer new
+    → CommandCall t c old answer new
 flip_made t words c f old answer new is spelled seen_a seen_b fresh top =
     let flips : IsFlip words f = subst (IsCommand words) is spelled in
     let call = top.flip f flips in
-    subst (λ (x : Command). MirrorCall t x old answer new) (sym is) (record {
+    subst (λ (x : Command). CommandCall t x old answer new) (sym is) (record {
       answered = λ e. top.usage.0 e (command.Flip f) flips;
       call = call;
       sides = flip_sides t f answer old.devices.mirror new.devices.mirror old.job new.job old.devices.input new.devices.input

@@ -1,34 +1,24 @@
 -- A mirror that is attached and healed for a command.
-use Rattle.std.proofs.Common.{Ok, inl, inr, ⊎_elim, ◌&&◌, ℕ, ◌^◌, ◌<◌, ◌≤◌, Bool, IsFalse, Option, Some, Result}
-use Rattle.std.proofs.Common.{sym, ap, subst, ◌∙◌, refl, arith}
+use Rattle.std.proofs.Common.{Ok, inl, inr, ⊎_elim, ◌&&◌, ◌^◌, ◌<◌, ◌≤◌, Bool, IsFalse, Option, Some, Result}
+use Rattle.std.proofs.Common.{sym, ap, subst, ◌∙◌, refl}
 use Rattle.std.proofs.lemmas.Bool.{and_parts, cases_Bool, false≢true}
 use Rattle.bm_base.specs.declared.dims.Dims.{Dims}
-use Rattle.bm_base.specs.Count.{Rose}
+use Rattle.bm_base.proofs.CountLemmas.{rose_earlier, rose_later}
 use Rattle.bm_rack.specs.RackView.{RackView, IsWellFormed}
 use Rattle.bm_rack.specs.Frames.{Keeps, RaisesCounts}
 use Rattle.bm_rack.specs.Calls.{AttachDone}
 use Rattle.bm_rack.specs.declared.rack.Found.{Found}
 use Rattle.bm_rack.specs.declared.rack.AttachError.{AttachError}
-use Rattle.bm_rack.proofs.FrameLemmas.{Keeps-refl, Keeps-trans}
+use Rattle.bm_rack.proofs.FrameLemmas.{Keeps-trans}
 use Rattle.bm_mirror.specs.declared.healing.Healed.{Healed}
 use Rattle.bm_mirror.specs.declared.healing.Healed.TheVariants.{Level, Apart}
 use Rattle.bm_mirror.specs.Healing.{MirrorHeal, ShowsTheSame}
 use Rattle.bm_mirror.specs.SideCalls.{MirrorCall}
 use Rattle.bm_mirror.specs.TwoSides.{TwoSides}
-use Rattle.bm_top.proofs.ExitLemmas.{SameCalls-refl}
 use Rattle.bm_top.proofs.SameDisksLemmas.{calls_kept}
 use Rattle.bm_mirror_call.specs.Healing.{CanBeFilled, ComesIn, NoneRose, ShownAs}
 
 -- ---- what the mirror shows
-
-pub ShownAs-refl : (v : RackView) → ShownAs v v
-ShownAs-refl v = record {
-  stands = refl;
-  contents = refl;
-  dirty = inl refl;
-  calls = SameCalls-refl v;
-  keeps = Keeps-refl v;
-}
 
 -- after an attach
 pub shown_attached : (told ts tc : Bool) (dims : Dims) (result : Result Found AttachError) (old new : RackView)
@@ -73,25 +63,19 @@ ShownAs-trans a b c x y = record {
 
 -- ---- counts of faults
 
-pub rise_before : (a b c : ℕ) → b ≤ c → c < 2 ^ 64 → Rose a b → Rose a c
-rise_before a b c le fits rose = ⊎_elim (λ lt. inl (omega (arith, lt, le))) (λ last. inr (omega (arith, last, le, fits))) rose
-
-pub rise_after : (a b c : ℕ) → a ≤ b → Rose b c → Rose a c
-rise_after a b c le rose = ⊎_elim (λ lt. inl (omega (arith, lt, le))) (λ last. inr last) rose
-
 -- of a count that does not rise
 module _ (a b c : TwoSides) (left : b.left.faults ≤ c.left.faults) (right : b.right.faults ≤ c.right.faults)
     (left_fits : c.left.faults < 2 ^ 64) (right_fits : c.right.faults < 2 ^ 64) where
   pub none_rose_before : NoneRose a c → NoneRose a b
   none_rose_before none = record {
-    left = λ rose. none.left (rise_before a.left.faults b.left.faults c.left.faults left left_fits rose);
-    right = λ rose. none.right (rise_before a.right.faults b.right.faults c.right.faults right right_fits rose);
+    left = λ rose. none.left (rose_later a.left.faults b.left.faults c.left.faults left left_fits rose);
+    right = λ rose. none.right (rose_later a.right.faults b.right.faults c.right.faults right right_fits rose);
   }
 
 pub none_rose_after : (a b c : TwoSides) → a.left.faults ≤ b.left.faults → a.right.faults ≤ b.right.faults → NoneRose a c → NoneRose b c
 none_rose_after a b c left right none = record {
-  left = λ rose. none.left (rise_after a.left.faults b.left.faults c.left.faults left rose);
-  right = λ rose. none.right (rise_after a.right.faults b.right.faults c.right.faults right rose);
+  left = λ rose. none.left (rose_earlier a.left.faults b.left.faults c.left.faults left rose);
+  right = λ rose. none.right (rose_earlier a.right.faults b.right.faults c.right.faults right rose);
 }
 
 -- ---- the sides

@@ -1,7 +1,5 @@
 -- The two lines, written one after the other.
-use Rattle.std.proofs.Common.{◌≡◌, ◌≢◌, ℕ, ◌^◌, ◌<◌, ◌≤◌, ◌++◌, List, [], take, sym, ap, ◌∙◌, refl, arith}
-use Rattle.std.proofs.lemmas.List.{append-nil}
-use Rattle.bm_base.specs.Count.{Rose}
+use Rattle.std.proofs.Common.{◌≡◌, ◌≢◌, ℕ, ◌++◌, List, take, ap, ◌∙◌, refl}
 use Rattle.bm_rack.specs.Sink.{AppendsFront}
 use Rattle.bm_mirror.specs.declared.sides.Sides.{Sides}
 use Rattle.bm_top.specs.declared.status.Status.{Status}
@@ -11,28 +9,12 @@ use Rattle.bm_top.specs.declared.status.Status.TheVariants.{NotLoaded, OtherShap
 use Rattle.bm_top.specs.declared.status.Status.TheVariants.{NotAffine, NotPermutation, BatchShape}
 use Rattle.bm_mirror_call.specs.MirrorCall.{AppendsFronts, last_line}
 use Rattle.bm_mirror_call.specs.SidesLine.{sides_line}
-use Rattle.bm_mirror_call.proofs.HealLemmas.{rise_before, rise_after}
 
--- both are whole where no write failed
-pub lines_whole : (told : Type 0) (before middle after : ℕ) (old mid new first second : List ℕ) → before ≤ middle → middle ≤ after
-    → after < 2 ^ 64 → (told → ¬ Rose before middle → mid ≡ old ++ first) → (told → ¬ Rose middle after → new ≡ mid ++ second)
-    → told → ¬ Rose before after → new ≡ old ++ first ++ second
-lines_whole told before middle after old mid new first second low high fits one two tells calm =
-    two tells (λ rose. calm (rise_after before middle after low rose))
-    ∙ ap (λ (x : List ℕ). x ++ second) (one tells (λ rose. calm (rise_before before middle after high fits rose)))
-
--- else fronts of them were written
+-- fronts of both were written
 pub lines_fronts : (old mid new first second : List ℕ) → AppendsFront old mid first → AppendsFront mid new second
     → AppendsFronts old new first second
 lines_fronts old mid new first second x y =
     (x.0, x.1, y.0, y.1, y.2 ∙ ap (λ (m : List ℕ). m ++ take y.0 second) x.2)
-
--- the first one alone
-pub line_whole : (old new first : List ℕ) → new ≡ old ++ first → new ≡ old ++ first ++ []
-line_whole old new first is = is ∙ sym (append-nil (old ++ first))
-
-pub line_front : (old new first : List ℕ) → AppendsFront old new first → AppendsFronts old new first []
-line_front old new first x = (x.0, x.1, 0, omega arith, x.2 ∙ sym (append-nil (old ++ take x.0 first)))
 
 -- what follows an answer that is no usage
 pub last_is : (status : Status) (sides : Sides) → status ≢ Usage → sides_line sides ≡ last_line status sides

@@ -12,7 +12,7 @@ use Rattle.bm_top.specs.declared.status.Status.{Status}
 use Rattle.bm_top.specs.declared.status.Status.TheVariants.{Done, RackFault}
 use Rattle.bm_mirror_call.specs.Healing.{AreIn, NoneRose}
 use Rattle.bm_mirror_call.specs.Seen.{MirrorSeen}
-use Rattle.bm_mirror_call.specs.Sides.{HasDisks, IsFresh, OthersFollow, SidesAfter, TouchesNone}
+use Rattle.bm_mirror_call.specs.Sides.{WorksOnDisks, IsNewMirror, OthersFollow, SidesAfter, TouchesNone}
 use Rattle.bm_mirror_call.proofs.SeenLemmas.{IsSeen}
 
 -- the facts that last from one moment to another
@@ -27,7 +27,7 @@ module _ (told : Bool) (a b : MirrorSeen) (seen_a : IsSeen told a) (seen_b : IsS
       ∙ keeps.lasting fact (ap (λ (f : List ℕ → Bool). f fact) seen_a.facts ∙ holds)
 
   -- the sides are the same where the facts are, of a mirror that was new
-  pub same_in : IsFresh a → a.rack.lasting ≡ b.rack.lasting → b.rack.faults ≡ a.rack.faults → b.sides.sides ≡ a.sides.sides
+  pub same_in : IsNewMirror a → a.rack.lasting ≡ b.rack.lasting → b.rack.faults ≡ a.rack.faults → b.sides.sides ≡ a.sides.sides
   same_in fresh same calm =
       let facts : mirror_facts told a.sides a.history ≡ mirror_facts told b.sides b.history = sym seen_a.facts ∙ same ∙ seen_b.facts in
       let both = same_sides told a.sides a.history b.sides b.history
@@ -55,7 +55,7 @@ module _ (told : Bool) (a b : MirrorSeen) (seen_a : IsSeen told a) (seen_b : IsS
       (seen_a.remembers.left zero in_both.0, seen_a.remembers.right zero in_both.1)
 
   -- disks that are made where nothing stood are made on both
-  pub both_made : Lasts told a b → IsTrue told → IsFresh a → (a.sides.left.stands ≡ None) × (a.sides.right.stands ≡ None)
+  pub both_made : Lasts told a b → IsTrue told → IsNewMirror a → (a.sides.left.stands ≡ None) × (a.sides.right.stands ≡ None)
       → ¬ (b.rack.stands ≡ None) → NoneRose a.sides b.sides → AreIn b.sides
   unfolding Lasts
   both_made later tells fresh nothing stands none =
@@ -64,9 +64,9 @@ module _ (told : Bool) (a b : MirrorSeen) (seen_a : IsSeen told a) (seen_b : IsS
       (fresh.faults, nothing) (λ empty. stands (seen_b.stands tells ∙ empty))
 
   -- all that is said of the sides
-  pub sides_after : (t : Tells) (c : Command) (answer : Status) → t.stands ≡ told → IsFresh a → Lasts told a b
+  pub sides_after : (t : Tells) (c : Command) (answer : Status) → t.stands ≡ told → IsNewMirror a → Lasts told a b
       → (answer ≡ RackFault → ¬ (b.history.faults ≡ 0))
-      → (TellsRack t → answer ≡ Done → HasDisks c → OthersFollow c a.sides → NoneRose a.sides b.sides → AreIn b.sides)
+      → (TellsRack t → answer ≡ Done → WorksOnDisks c → OthersFollow c a.sides → NoneRose a.sides b.sides → AreIn b.sides)
       → (TouchesNone c → b.sides.sides ≡ a.sides.sides) → SidesAfter t c a.sides answer b.sides b.history
   unfolding Lasts
   sides_after t c answer tells fresh later failed both stays =

@@ -1,7 +1,6 @@
 -- A job text, and the source that held it.
-use Rattle.std.proofs.Common.{◌≡◌, ◌≢◌, inl, inr, ⊎_elim, true, ℕ, ◌≤◌, Bool, IsTrue, List, [], length, Result, Ok, Err, IfErr}
-use Rattle.std.proofs.Common.{sym, ap, subst, ◌∙◌, refl, arith}
-use Rattle.std.proofs.lemmas.List.{drop_all}
+use Rattle.std.proofs.Common.{◌≡◌, ◌≢◌, inl, ⊎_elim, true, ℕ, ◌≤◌, Bool, IsTrue, List, [], length, Result, Ok, Err, IfErr}
+use Rattle.std.proofs.Common.{subst, refl, arith}
 use Rattle.bm_base.specs.declared.field_name.FieldName.{FieldName}
 use Rattle.bm_base.specs.declared.shape.Shape.{Shape}
 use Rattle.bm_named.specs.declared.map_fault.MapFault.{MapFault}
@@ -17,7 +16,7 @@ use Rattle.bm_top.specs.declared.words.Verb.TheVariants.{Load}
 use Rattle.bm_top.specs.declared.status.Status.{Status}
 use Rattle.bm_top.specs.declared.status.Status.TheVariants.{JobFault, JobText, JobField, JobShape, JobMap}
 use Rattle.bm_top.proofs.JobCauseLemmas.{not_refused}
-use Rattle.bm_top.proofs.JobReadLemmas.{source_ended}
+use Rattle.bm_top.proofs.JobReadLemmas.{read_whole, source_ended}
 use Rattle.bm_mirror_call.specs.Healing.{HealStops, StopsAt}
 
 -- ---- the source
@@ -26,20 +25,9 @@ use Rattle.bm_mirror_call.specs.Healing.{HealStops, StopsAt}
 pub read_of_text : (verb : Verb) (told : Bool) (text rest : List ℕ) (old new : SourceView) (answer : Status)
     → JobRead verb true (source_of text 0) answer (source_of rest 0) → (IsTrue told → text ≡ old.left) → length text ≤ 65536
     → (IsTrue told → new.left ≡ []) → old.faults ≤ new.faults → JobRead verb told old answer new
-read_of_text verb told text rest old new answer r same short end low = record {
-  cause = λ t. subst (λ (x : List ℕ). JobCause verb x answer) (same t) (r.cause refl);
-  ended = λ t is. end t;
-  read = λ t read. end t ∙ sym (drop_all 65537 old.left (held t 65537 (omega arith)));
-  memory = λ t e. inr (end t);
-  few = λ t. (length old.left, held t 65537 (omega arith), end t ∙ sym (drop_all (length old.left) old.left (omega arith)));
-  fault = λ e. absurd (⊎_elim (λ lt. omega (arith, lt)) (λ last. omega (arith, last)) (r.fault e));
-  faults = low;
-}
-  where
-    held : IsTrue told → (most : ℕ) → 65536 ≤ most → length old.left ≤ most
-    held t most room =
-        let long : length text ≡ length old.left = ap (λ (x : List ℕ). length x) (same t) in
-        omega (arith, long, short, room)
+read_of_text verb told text rest old new answer r same short end low =
+    source_ended verb told answer old new (λ e. ⊎_elim (λ lt. omega (arith, lt)) (λ last. omega (arith, last)) (r.fault e))
+    (read_whole told text old new same short end) low (λ t. subst (λ (x : List ℕ). JobCause verb x answer) (same t) (r.cause refl))
 
 -- ---- a text that means a job is not refused
 
@@ -48,9 +36,7 @@ text_taken : (text : List ℕ) (file : JobFile) (answer : Status) → IsJobFile 
     → JobCause Load text answer → ¬ RefusesJob answer
 text_taken text file answer means short other cause =
     not_refused Load true (source_of text 0) answer (source_of [] 0) file
-    (source_ended Load true answer (source_of text 0) (source_of [] 0) 65537 (length text) refl other (omega (arith, short))
-    (λ t. (refl, refl)) (λ t. (length text, omega (arith, short), sym (drop_all (length text) text (omega arith)))) (omega arith)
-    (λ t. cause))
+    (source_ended Load true answer (source_of text 0) (source_of [] 0) other (λ t. (refl, short)) (omega arith) (λ t. cause))
     refl means tt (λ rose. ⊎_elim (λ lt. omega (arith, lt)) (λ last. omega (arith, last)) rose)
 
 module _ (text : List ℕ) (file : JobFile) (means : IsJobFile text file) where

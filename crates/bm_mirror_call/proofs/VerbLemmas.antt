@@ -11,10 +11,10 @@ use Rattle.bm_top.specs.declared.status.Status.{Status}
 use Rattle.bm_top.specs.declared.words.Command.TheVariants.{On}
 use Rattle.bm_top.specs.declared.words.Verb.{Verb}
 use Rattle.bm_top.specs.declared.words.Verb.TheVariants as verbs
-use Rattle.bm_mirror_call.specs.Sides.{HasDisks, TouchesNone}
+use Rattle.bm_mirror_call.specs.Sides.{WorksOnDisks, TouchesNone}
 
 -- one that has disks attaches or makes them
-pub which : (verb : Verb) → HasDisks (On verb) → Attaches verb ⊎ Makes verb
+pub which : (verb : Verb) → WorksOnDisks (On verb) → Attaches verb ⊎ Makes verb
 which verbs.New has = inr tt
 which verbs.Load has = inl tt
 which verbs.Plan has = absurd has

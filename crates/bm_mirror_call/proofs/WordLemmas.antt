@@ -1,6 +1,6 @@
 -- The words of a command over a mirror.
-use Rattle.std.proofs.Common.{◌≡◌, ◌-◌, ◌≤◌, ◌==◌, codes, ℕ, List, [], ◌∷◌, take, drop}
-use Rattle.std.proofs.Common.{length, String, Global, string_bytes, get_or, if◌then◌else◌, refl, Option, Some, None, IfNone}
+use Rattle.std.proofs.Common.{◌≡◌, ◌-◌, ◌==◌, codes, ℕ, List, [], ◌∷◌, take, drop}
+use Rattle.std.proofs.Common.{length, String, Global, if◌then◌else◌, refl, Option, Some, None, IfNone}
 use Rattle.std.proofs.Common.{sym, ◌∙◌, ap, subst, arith}
 use Rattle.std.proofs.lemmas.List.{take_all, length-drop}
 use Rattle.bm_mirror.specs.declared.sides.Side.{Side}
@@ -10,7 +10,7 @@ use Rattle.bm_top.specs.declared.words.Command.{Command}
 use Rattle.bm_top.specs.declared.words.Command.TheVariants as command
 use Rattle.bm_top.specs.declared.words.Verb.{Verb}
 use Rattle.bm_top.proofs.WordsLemmas.{IsFlip-unique, the_verb, verb_no_flip}
-use Rattle.bm_mirror_call.specs.Words.{IsMirror, NamesSide, side_word}
+use Rattle.bm_mirror_call.specs.Words.{IsMirrorCommand, NamesSide, side_word}
 
 -- the words after the first two
 pub rest_is : (words : List (String Global)) → take (length words - 2) (drop 2 words) ≡ drop 2 words
@@ -43,12 +43,12 @@ one_command words (command.On v) (command.On w) x y = ap command.On (the_verb wo
 -- words after the first two that name no job
 pub names_none : {X : Type 0} (words : List (String Global)) (job : Option X)
     → IfNone job ((verb : Verb) → ¬ IsJobWords (take (length words - 2) (drop 2 words)) verb)
-    → IfNone job ((side : Side) (verb : Verb) → ¬ IsMirror words side (command.On verb))
+    → IfNone job ((side : Side) (verb : Verb) → ¬ IsMirrorCommand words side (command.On verb))
 names_none words None none =
     λ side verb is. none verb (subst (λ (ws : List (String Global)). IsJobWords ws verb) (sym (rest_is words)) is.rest)
 names_none words (Some x) none = tt
 
 -- the words of its command
-pub rest_spells : (words : List (String Global)) (side : Side) (c : Command) → IsMirror words side c
+pub rest_spells : (words : List (String Global)) (side : Side) (c : Command) → IsMirrorCommand words side c
     → IsCommand (take (length words - 2) (drop 2 words)) c
 rest_spells words side c is = subst (λ (ws : List (String Global)). IsCommand ws c) (sym (rest_is words)) is.rest

@@ -4,12 +4,11 @@ use Rattle.bm_base.specs.declared.dims.Dims.{Dims}
 use Rattle.bm_base.specs.Count.{Rose}
 use Rattle.bm_base.specs.Shape.{dims_of}
 use Rattle.bm_rack.specs.RackView.{RackView, IsClean}
-use Rattle.bm_rack.specs.Frames.{Keeps}
+use Rattle.bm_rack.specs.Frames.{SameCalls, Keeps}
 use Rattle.bm_jobfile.specs.declared.job_file.JobFile.{JobFile}
 use Rattle.bm_jobfile.specs.JobFile.{IsJobFile}
 use Rattle.bm_mirror.specs.TwoSides.{TwoSides}
 use Rattle.bm_top.specs.Causes.{Attaches}
-use Rattle.bm_top.specs.Exits.{SameCalls}
 use Rattle.bm_top.specs.JobRead.{TakesShape}
 use Rattle.bm_top.specs.declared.words.Verb.{Verb}
 use Rattle.bm_top.specs.declared.status.Status.{Status}

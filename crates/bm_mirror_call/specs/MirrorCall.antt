@@ -22,7 +22,7 @@ use Rattle.bm_mirror_call.specs.Healing.{HealStops, ShownAs}
 use Rattle.bm_mirror_call.specs.Seen.{MirrorDevices, MirrorMoment, devices_over, devices_seen}
 use Rattle.bm_mirror_call.specs.Sides.{SidesOf}
 use Rattle.bm_mirror_call.specs.SidesLine.{sides_line}
-use Rattle.bm_mirror_call.specs.Words.{IsMirror, IsNoMirror}
+use Rattle.bm_mirror_call.specs.Words.{IsMirrorCommand, IsNoMirrorCommand}
 
 -- ---- a command that has a job
 
@@ -65,7 +65,7 @@ call_of t (command.Flip flip) old answer new =
     FlipCall t flip (moment_of old.job (devices_seen old.devices)) answer (moment_of new.job (devices_seen new.devices))
 call_of t (command.On verb) old answer new = MirrorJob t verb old answer new
 
-pub record MirrorCall (t : Tells) (c : Command) (old : MirrorMoment) (answer : Status) (new : MirrorMoment) : Type 0 where
+pub record CommandCall (t : Tells) (c : Command) (old : MirrorMoment) (answer : Status) (new : MirrorMoment) : Type 0 where
   pub answered : answer ≢ Usage
   pub call : call_of t c old answer new
   pub sides : SidesOf t c old.devices answer new.devices
@@ -74,9 +74,9 @@ pub record MirrorCall (t : Tells) (c : Command) (old : MirrorMoment) (answer : S
 -- handed back.
 pub record MirrorTop (t : Tells) (words : List (String Global)) (start : Side → MirrorMoment) (answer : Status) (new : MirrorMoment)
     : Type 0 where
-  pub usage : (answer ≡ Usage) ↔ IsNoMirror words
-  pub nothing : IsNoMirror words → new ≡ start Left
-  pub call : (first : Side) (c : Command) → IsMirror words first c → MirrorCall t c (start first) answer new
+  pub usage : (answer ≡ Usage) ↔ IsNoMirrorCommand words
+  pub nothing : IsNoMirrorCommand words → new ≡ start Left
+  pub call : (first : Side) (c : Command) → IsMirrorCommand words first c → CommandCall t c (start first) answer new
 
 -- ---- the lines
 

@@ -17,7 +17,7 @@ use Rattle.bm_mirror_call.specs.Healing.{AreIn, NoneRose}
 use Rattle.bm_mirror_call.specs.Seen.{MirrorSeen, MirrorDevices}
 
 -- a mirror of which one side is in, and of which no call failed
-pub record IsFresh (m : MirrorSeen) : Type 0 where
+pub record IsNewMirror (m : MirrorSeen) : Type 0 where
   pub some_in : IsFalse m.sides.sides.left → IsTrue m.sides.sides.right
   pub alone : IsTrue m.sides.sides.left → IsFalse m.sides.sides.right
   pub level : m.history.level ≡ m.sides.sides
@@ -32,11 +32,11 @@ TouchesNone (command.On Drill) = Unit {0}
 TouchesNone _ = ⊥
 
 -- It has disks: it is none of those two, and a flip is one of a shape.
-abbrev pub HasDisks : Command → Type 0
-HasDisks (command.Flip f) = (s : Shape) × (f ≡ flip_by s f.c)
-HasDisks (command.On Plan) = ⊥
-HasDisks (command.On Drill) = ⊥
-HasDisks (command.On verb) = Unit {0}
+abbrev pub WorksOnDisks : Command → Type 0
+WorksOnDisks (command.Flip f) = (s : Shape) × (f ≡ flip_by s f.c)
+WorksOnDisks (command.On Plan) = ⊥
+WorksOnDisks (command.On Drill) = ⊥
+WorksOnDisks (command.On verb) = Unit {0}
 
 -- it goes on with disks that stand
 abbrev pub GoesOnWith : Command → Type 0
@@ -45,12 +45,12 @@ GoesOnWith (command.On verb) = Attaches verb
 
 -- Nothing stands on a side that is out; or what stands on the other one, if the command goes on with that. Where such a command is Done,
 -- these are the disks of its job.
-abbrev pub Follows : Command → Option Dims → Option Dims → Type 0
-Follows c out first = (out ≡ None) ⊎ (GoesOnWith c × (out ≡ first))
+abbrev pub CanFollow : Command → Option Dims → Option Dims → Type 0
+CanFollow c out first = (out ≡ None) ⊎ (GoesOnWith c × (out ≡ first))
 
 pub record OthersFollow (c : Command) (s : TwoSides) : Type 0 where
-  pub left : IsFalse s.sides.left → Follows c s.left.stands s.right.stands
-  pub right : IsFalse s.sides.right → Follows c s.right.stands s.left.stands
+  pub left : IsFalse s.sides.left → CanFollow c s.left.stands s.right.stands
+  pub right : IsFalse s.sides.right → CanFollow c s.right.stands s.left.stands
 
 -- ---- the sides
 
@@ -75,7 +75,7 @@ pub record SidesAfter (t : Tells) (c : Command) (old : TwoSides) (answer : Statu
   pub first_right : IsTrue old.sides.right → IsTrue h.level.right
   pub left_fell : IsTrue h.level.left → IsLost new.sides.left answer → LeftFell old new
   pub right_fell : IsTrue h.level.right → IsLost new.sides.right answer → RightFell t.stands h old new
-  pub both : TellsRack t → answer ≡ Done → HasDisks c → OthersFollow c old → NoneRose old new → AreIn new
+  pub both : TellsRack t → answer ≡ Done → WorksOnDisks c → OthersFollow c old → NoneRose old new → AreIn new
   pub stays : TouchesNone c → new.sides ≡ old.sides
 
 -- that of the devices of a command

@@ -17,7 +17,7 @@ abbrev pub NamesSide : List (String Global) → Side → Type 0
 NamesSide words side = texts_of (take 2 words) ≡ codes "mirror" ∷ side_word side ∷ []
 
 -- the words are these, and those of a command
-pub record IsMirror (words : List (String Global)) (side : Side) (command : Command) : Type 0 where
+pub record IsMirrorCommand (words : List (String Global)) (side : Side) (command : Command) : Type 0 where
   pub first : NamesSide words side
   pub rest : IsCommand (drop 2 words) command
 
@@ -27,5 +27,5 @@ pub record NamesMirrorJob (words : List (String Global)) (side : Side) (verb : V
   pub rest : NamesJob (drop 2 words) verb job
 
 -- the words are those of no command over a mirror
-abbrev pub IsNoMirror : List (String Global) → Type 0
-IsNoMirror words = (side : Side) (command : Command) → ¬ IsMirror words side command
+abbrev pub IsNoMirrorCommand : List (String Global) → Type 0
+IsNoMirrorCommand words = (side : Side) (command : Command) → ¬ IsMirrorCommand words side command

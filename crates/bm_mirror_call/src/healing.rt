@@ -15,13 +15,6 @@ use bm_rack::{AttachError, Found, Rack};
 use bm_top::{Status, Verb};
 use std::alloc::Global;
 
-// The bytes of a row: one block a disk.
-fn row_bytes(shape: &Shape) -> usize
-    ensures { result ≡ (dims_of shape.now).disks * (dims_of shape.now).block }
-{
-    (1usize << (shape.b() + shape.d())) * usize::from(shape.width())
-}
-
 // Whether the command goes on with disks that stand.
 fn goes_on(verb: Verb) -> bool
     ensures goes { IsTrue result → Attaches verb }
@@ -83,7 +76,7 @@ fn heal_disks<L: Rack, G: Rack>(
         (two_sides (L.view mirror.old.left) (G.view mirror.old.right) mirror.old.sides)
         (two_sides (L.view mirror.new.left) (G.view mirror.new.right) mirror.new.sides) }
 {
-    let Ok(mut row) = vec![in alloc; 0u8; row_bytes(shape)] else {
+    let Ok(mut row) = vec![in alloc; 0u8; shape.row_bytes()] else {
         return Err(Status::OutOfMemory);
     };
     let dims = shape.dims();

@@ -3,7 +3,6 @@
 #![tactic(auto)]
 
 mod healing;
-mod job_text;
 mod mirror_call;
 mod sides_line;
 mod words;

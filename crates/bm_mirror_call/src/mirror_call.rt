@@ -8,19 +8,18 @@ ghost use Rattle.bm_rack.specs.Sink.{AppendsFront};
 ghost use Rattle.bm_top.specs.Moment.{source_of, sink_of, tells_of};
 ghost use Rattle.bm_top.specs.StatusWords.{line_of};
 ghost use Rattle.bm_top.specs.Words.{IsCommand, IsJobWords};
-ghost use Rattle.bm_mirror_call.specs.MirrorCall.{AppendsFronts, MirrorCall, MirrorJob, MirrorTop, TextCall, last_line};
+ghost use Rattle.bm_mirror_call.specs.MirrorCall.{AppendsFronts, CommandCall, MirrorJob, MirrorTop, TextCall, last_line};
 ghost use Rattle.bm_mirror_call.specs.Seen.{mirror_devices, mirror_moment, mirror_seen, new_mirror};
 ghost use Rattle.bm_mirror_call.specs.Seen.{sides_tell, tells_over};
-ghost use Rattle.bm_mirror_call.specs.Sides.{IsFresh, SidesOf};
+ghost use Rattle.bm_mirror_call.specs.Sides.{IsNewMirror, SidesOf};
 
 use crate::healing::heal_for;
-use crate::job_text::job_text;
 use crate::sides_line::write_sides;
 use crate::words::mirror_of;
 use bm_memrack::SureSource;
 use bm_mirror::{Mirror, Side};
 use bm_rack::{Rack, Sink, Source};
-use bm_top::{Command, Status, Verb, bmmc_top, write_answer};
+use bm_top::{Command, Status, Verb, bmmc_top, job_text, write_answer};
 use std::alloc::Global;
 
 // Carries out a command whose job text is read, and writes the line of its answer.
@@ -35,7 +34,7 @@ fn run_on_text<L: Rack, G: Rack, S: Source, K: Sink, E: Sink>(
     mirror: &mut Mirror<L, G>,
 ) -> Status
     requires words { IsJobWords words.now verb }
-    requires fresh { IsFresh
+    requires fresh { IsNewMirror
         (mirror_seen (sides_tell L.tells_stands L.tells_contents G.tells_stands G.tells_contents)
         (two_sides (L.view mirror.old.left) (G.view mirror.old.right) mirror.old.sides)
         (history mirror.old.level mirror.old.lapsed mirror.old.starved mirror.old.faults)
@@ -100,12 +99,12 @@ fn run_on_job<L: Rack, G: Rack, J: Source, S: Source, K: Sink, E: Sink>(
     mirror: &mut Mirror<L, G>,
 ) -> Status
     requires words { IsJobWords words.now verb }
-    requires fresh { IsFresh
+    requires fresh { IsNewMirror
         (mirror_seen (sides_tell L.tells_stands L.tells_contents G.tells_stands G.tells_contents)
         (two_sides (L.view mirror.old.left) (G.view mirror.old.right) mirror.old.sides)
         (history mirror.old.level mirror.old.lapsed mirror.old.starved mirror.old.faults)
         mirror.old.attached mirror.old.moves mirror.old.pages mirror.old.syncs) }
-    ensures call { MirrorCall
+    ensures call { CommandCall
         (tells_over J.tells S.tells K.tells
         (sides_tell L.tells_stands L.tells_contents G.tells_stands G.tells_contents)) (Command.On verb)
         (mirror_moment (source_of (J.left job.old) (J.faults job.old))
@@ -148,12 +147,12 @@ fn run_command<L: Rack, G: Rack, J: Source, S: Source, K: Sink, E: Sink>(
     mirror: &mut Mirror<L, G>,
 ) -> Status
     requires words { IsCommand words.now command }
-    requires fresh { IsFresh
+    requires fresh { IsNewMirror
         (mirror_seen (sides_tell L.tells_stands L.tells_contents G.tells_stands G.tells_contents)
         (two_sides (L.view mirror.old.left) (G.view mirror.old.right) mirror.old.sides)
         (history mirror.old.level mirror.old.lapsed mirror.old.starved mirror.old.faults)
         mirror.old.attached mirror.old.moves mirror.old.pages mirror.old.syncs) }
-    ensures call { MirrorCall
+    ensures call { CommandCall
         (tells_over J.tells S.tells K.tells
         (sides_tell L.tells_stands L.tells_contents G.tells_stands G.tells_contents)) command
         (mirror_moment (source_of (J.left job.old) (J.faults job.old))

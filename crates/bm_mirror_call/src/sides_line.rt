@@ -9,7 +9,7 @@ use bm_mirror::Sides;
 use bm_rack::{Sink, write_all_of};
 
 // The line of these sides.
-fn line_of(sides: Sides) -> &'static [u8]
+fn line_of_sides(sides: Sides) -> &'static [u8]
     ensures { result.now ≡ sides_line sides }
 {
     match (sides.left, sides.right) {
@@ -27,5 +27,5 @@ pub fn write_sides<E: Sink>(err: &mut E, sides: Sides)
     ensures front { IsTrue E.tells → AppendsFront (E.taken err.old) (E.taken err.new) (sides_line sides) }
     ensures faults { E.faults err.old ≤ E.faults err.new }
 {
-    let _ = write_all_of(err, line_of(sides));
+    let _ = write_all_of(err, line_of_sides(sides));
 }

@@ -3,7 +3,7 @@
 ghost use Rattle.std.specs.Prelude.{◌≡◌, ◌≢◌, IfSome, IfNone, drop};
 ghost use Rattle.bm_mirror.specs.declared.sides.Side.{Side};
 ghost use Rattle.bm_top.specs.declared.words.Verb.{Verb};
-ghost use Rattle.bm_mirror_call.specs.Words.{IsMirror, IsNoMirror, NamesMirrorJob, NamesSide, side_word};
+ghost use Rattle.bm_mirror_call.specs.Words.{IsMirrorCommand, IsNoMirrorCommand, NamesMirrorJob, NamesSide, side_word};
 
 use bm_mirror::Side;
 use bm_top::{Command, command_of, job_word};
@@ -42,8 +42,8 @@ fn first_side(words: &[String]) -> Option<Side>
 
 /// The command over a mirror that the words spell, or nothing where they are none.
 pub fn mirror_of(words: &[String]) -> Option<MirrorCommand>
-    ensures found { IfSome result (λ spelled. IsMirror words.now spelled.first spelled.command) }
-    ensures none { IfNone result (IsNoMirror words.now) }
+    ensures found { IfSome result (λ spelled. IsMirrorCommand words.now spelled.first spelled.command) }
+    ensures none { IfNone result (IsNoMirrorCommand words.now) }
 {
     match first_side(words) {
         Some(first) => match command_of(&words[2..]) {
@@ -58,7 +58,7 @@ pub fn mirror_of(words: &[String]) -> Option<MirrorCommand>
 pub fn mirror_job(words: &[String]) -> Option<&str>
     ensures found { IfSome result (λ job. (side : Side) × (verb : Verb)
         × NamesMirrorJob words.now side verb job.now) }
-    ensures none { IfNone result ((side : Side) (verb : Verb) → ¬ IsMirror words.now side (Command.On verb)) }
+    ensures none { IfNone result ((side : Side) (verb : Verb) → ¬ IsMirrorCommand words.now side (Command.On verb)) }
 {
     match first_side(words) {
         Some(_) => job_word(&words[2..]),

@@ -120,8 +120,8 @@ fn first_repeat(n: u8, list: &[u8]) -> Option<(u8, u8)>
     None
 }
 
-// An entry before j that is the same as entry j.
-fn earlier(list: &[u8], j: u8) -> Option<u8>
+/// An entry before entry j that is the same, if there is one.
+pub fn earlier(list: &[u8], j: u8) -> Option<u8>
     requires { j < length list.now }
     ensures some { IfSome result (λ i. (i < j) × (slice_index list.now i ≡ slice_index list.now j)) }
     ensures none { IfNone result ((i : ℕ) → i < j

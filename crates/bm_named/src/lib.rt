@@ -8,7 +8,7 @@ mod map_fault;
 mod reversals;
 mod shuffles;
 
-pub use explicit::{bits, from_rows, with_complement};
+pub use explicit::{bits, earlier, from_rows, with_complement};
 pub use gray_code::{gray, inverse_gray};
 pub use map_fault::MapFault;
 pub use reversals::{bit_reversal, identity, reversal};

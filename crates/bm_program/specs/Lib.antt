@@ -1,5 +1,4 @@
-pub mod Call
+pub mod Calls
+pub mod Lines
 pub mod BatchOverFiles
-pub mod MirrorCalls
-pub mod KindCall
 pub mod Choice

@@ -5,9 +5,7 @@ ghost use Rattle.bm_program.specs.Choice.{Chooses, CallsChosen};
 ghost use Rattle.bm_top.specs.Moment.{source_of, sink_of};
 
 use crate::batch::call_batch;
-use crate::kind::call_kind;
-use crate::mirror::call_mirror;
-use crate::one_job::call_one;
+use crate::one_job::{OneJob, call_one};
 use crate::start_error::StartError;
 use bm_filerack::LockFile;
 use bm_rack::{Sink, Source};
@@ -20,12 +18,9 @@ use std::rt::Files;
 pub enum Choice {
     /// Several jobs in turn, of the words `batch` and `batch-run`.
     Batch,
-    /// A command over two racks, of the word `mirror`.
-    Mirror,
-    /// A transform over chosen bits, of the word `kind`.
-    Kind,
-    /// A command of one job, of all other words.
-    One,
+    /// One job: over a mirror of the word `mirror`, a transform of the word `kind`, and a command of
+    /// all other words.
+    One(OneJob),
 }
 
 /// The call that a first word chooses.
@@ -34,9 +29,9 @@ pub fn choice_of(word: &str) -> Choice
 {
     match word {
         "batch" | "batch-run" => Choice::Batch,
-        "mirror" => Choice::Mirror,
-        "kind" => Choice::Kind,
-        _ => Choice::One,
+        "mirror" => Choice::One(OneJob::Mirror),
+        "kind" => Choice::One(OneJob::Transform),
+        _ => Choice::One(OneJob::Command),
     }
 }
 
@@ -63,8 +58,6 @@ where
 {
     match choice {
         Choice::Batch => call_batch(rt, words, input, out, err),
-        Choice::Mirror => call_mirror(rt, words, input, out, err),
-        Choice::Kind => call_kind(rt, words, input, out, err),
-        Choice::One => call_one(rt, words, input, out, err),
+        Choice::One(call) => call_one(rt, call, words, input, out, err),
     }
 }

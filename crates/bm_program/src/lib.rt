@@ -7,8 +7,6 @@
 
 mod batch;
 mod choice;
-mod kind;
-mod mirror;
 mod one_job;
 mod program;
 mod start_error;

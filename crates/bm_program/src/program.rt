@@ -4,6 +4,7 @@ ghost use Rattle.std.specs.Prelude.{◌≡◌, Err, IfOk};
 ghost use Rattle.bm_top.specs.Status.{code_of};
 
 use crate::choice::{Choice, call_chosen, choice_of};
+use crate::one_job::OneJob;
 use crate::start_error::StartError;
 use crate::streams::Stream;
 use bm_filerack::{LockFile, StdSink, StdSource};
@@ -35,7 +36,7 @@ where
     let mut err = StdSink::new(err);
     let choice = match words.first() {
         Some(word) => choice_of(word.as_str()),
-        None => Choice::One,
+        None => Choice::One(OneJob::Command),
     };
     call_chosen::<R, StdSource<I>, StdSink<O>, StdSink<E>>(
         rt,

@@ -3,6 +3,7 @@
 ghost use Rattle.std.specs.Prelude.{◌≡◌, ◌≢◌};
 ghost use Rattle.std.specs.IoError.{error_kind};
 
+use bm_base::OutOfMemory;
 use std::alloc::AllocError;
 use std::io;
 use std::io::ErrorKind;
@@ -29,6 +30,16 @@ impl From<io::Error> for StartError {
         } else {
             StartError::Unavailable
         }
+    }
+}
+
+impl From<OutOfMemory> for StartError {
+    ghost use Rattle.bm_program.specs.declared.start_error.StartError.TheVariants as end;
+
+    ghost from_gives = { λ _ made. made ≡ end.OutOfMemory };
+
+    fn from(_: OutOfMemory) -> StartError {
+        StartError::OutOfMemory
     }
 }
 

@@ -41,6 +41,18 @@ pub record HasCause (failed : Type 0) (old new : RackView) : Type 0 where
   pub rose : failed → Rose old.faults new.faults
   pub sure : IsTrue old.steady → IsFalse old.stopping → ¬ failed
 
+-- no row call, page call and sync was made, or the counts stand still at their end
+pub record SameCalls (old new : RackView) : Type 0 where
+  pub moves : new.moves ≡ old.moves
+  pub pages : new.pages ≡ old.pages
+  pub syncs : new.syncs ≡ old.syncs
+
+-- what stands, its bytes and what is dirty are as before
+pub record SameDisks (old new : RackView) : Type 0 where
+  pub stands : new.stands ≡ old.stands
+  pub contents : new.contents ≡ old.contents
+  pub dirty : new.dirty ≡ old.dirty
+
 -- nothing but counts changed
 pub record SameState (old new : RackView) : Type 0 where
   pub stands : new.stands ≡ old.stands

@@ -22,8 +22,8 @@ pub record RackView : Type 0 where
   pub steady : Bool
   -- a stop is ahead, or was reached
   pub stopping : Bool
-  -- Facts of the rack's own that no call takes back, each named by a list of numbers: one that is made of several racks tells so what became
-  -- of them. Others have none.
+  -- Facts of the rack's own that no call takes back, each named by a list of numbers: one that is made of several racks tells so what
+  -- became of them. Others have none.
   pub lasting : List ℕ → Bool
 
 -- The parts of a view agree, at every moment.

@@ -2,11 +2,13 @@
 
 #![tactic(auto)]
 
+mod places;
 mod rack;
 mod sink;
 mod source;
 mod stop_rack;
 
+pub use places::same_places;
 pub use rack::{AttachError, CreateError, Found, Rack};
 pub use sink::{Sink, write_all_of};
 pub use source::Source;

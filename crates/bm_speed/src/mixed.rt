@@ -11,7 +11,7 @@ use bm_gf2::Affine;
 use bm_kinds::{Kernel, kernel_at};
 use std::io;
 
-/// lg of the bytes of a record.
+// lg of the bytes of a record.
 const WIDTH_BITS: u8 = 3;
 
 /// Every bit.

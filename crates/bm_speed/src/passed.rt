@@ -22,7 +22,7 @@ use std::io;
 use std::io::ErrorKind;
 use std::time::CpuClock;
 
-/// lg of the disks.
+// lg of the disks.
 const DISK_BITS: u8 = 2;
 
 // The shape of one load on four disks, for records of `2 ^ width_bits` bytes.

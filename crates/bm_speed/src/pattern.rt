@@ -3,7 +3,7 @@
 ghost use Rattle.std.specs.Prelude.{◌≡◌, ℕ, ◌+◌, ◌^◌, ◌<◌, ◌≤◌, length, slice_index};
 ghost use Rattle.bm_speed.specs.Pattern.{pattern_byte};
 
-/// An odd number near `2 ^ 64` divided by the golden ratio.
+// An odd number near `2 ^ 64` divided by the golden ratio.
 const FACTOR: u64 = 11400714819323198485;
 
 /// Fills a buffer with the bytes of the pattern from number `first` on.

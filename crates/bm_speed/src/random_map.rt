@@ -6,10 +6,10 @@ ghost use Rattle.bm_gf2.specs.Matrix.{IsNonsingular};
 use bm_gf2::{Affine, MOST_COLUMNS, no_columns};
 use bm_named::{from_rows, identity};
 
-/// What the numbers of the sequence are apart before they are mixed.
+// What the numbers of the sequence are apart before they are mixed.
 const STEP: u64 = 0x9e3779b97f4a7c15;
 
-/// How many matrices are tried. About two of seven are nonsingular.
+// How many matrices are tried. About two of seven are nonsingular.
 const ATTEMPTS: u64 = 64;
 
 // A number of the sequence splitmix64 (Steele, Lea, Flood) that begins at 0.

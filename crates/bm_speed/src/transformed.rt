@@ -9,7 +9,7 @@ use crate::stopwatch::{nanoseconds_used, print_line};
 use bm_butter::butterflies_at;
 use std::io;
 
-/// lg of the bytes of a record.
+// lg of the bytes of a record.
 const WIDTH_BITS: u8 = 3;
 
 /// Transforms a load of the pattern's records at the places of a map, and prints its line.

@@ -15,7 +15,7 @@ use bm_split::{Split, best_split, split_placing};
 use std::io;
 use std::time::CpuClock;
 
-/// lg of the records of a run where nothing is measured.
+// lg of the records of a run where nothing is measured.
 const SHORT_RUN_BITS: u8 = 3;
 
 // The split that is fastest, or where nothing is measured one by short runs: loads are small there.

@@ -18,7 +18,7 @@ const CACHE_BYTES: u64 = 32768;
 const LINE_BYTES: u64 = 64;
 
 // What a page of memory holds, in bytes.
-const PAGE_BYTES: u64 = 4096;
+const MEMORY_PAGE_BYTES: u64 = 4096;
 
 // What the second cache keeps of lines that are still being filled, in bytes.
 const FILLED_BYTES: u64 = 131072;
@@ -83,7 +83,7 @@ fn fills_lines(placing: &Placing) -> bool {
 fn has_few_streams(placing: &Placing) -> bool {
     let n = placing.a.n;
     let cached = most_bits(CACHE_BYTES, placing.width, n);
-    let page = most_bits(PAGE_BYTES, placing.width, n);
+    let page = most_bits(MEMORY_PAGE_BYTES, placing.width, n);
     let neighbours = NEIGHBOUR_BITS.min(n);
     rank_of(&placing.a, page, cached) <= MOST_STREAM_BITS
         || rank_of(&placing.a, page, neighbours) <= MOST_NEIGHBOUR_STREAM_BITS

@@ -7,22 +7,7 @@ ghost use Rattle.bm_rack.specs.Frames.{Keeps, RaisesCounts, MovesRows, HasCause,
 ghost use Rattle.bm_stripe.specs.Rows.{HoldsRows, IsRowsUnit, following};
 
 use bm_base::{Dims, Failed, MOST_DISKS};
-use bm_rack::Rack;
-
-/// The entries of a row of places: one for each disk that a rack can have.
-pub const ROW_PLACES: usize = MOST_DISKS as usize;
-
-// One place on each disk.
-fn same_places(place: u64) -> [Option<u64>; ROW_PLACES]
-    ensures length { length result ≡ 64 }
-    ensures each { (disk : ℕ) → disk < 64 → place_on result disk ≡ Some place }
-{
-    let mut places = [None; ROW_PLACES];
-    for disk in 0..ROW_PLACES {
-        places[disk] = Some(place);
-    }
-    places
-}
+use bm_rack::{Rack, same_places};
 
 /// Reads rows that follow one another from a place on, the bytes of each behind those of the last.
 pub fn read_rows<R: Rack>(
@@ -57,7 +42,7 @@ pub fn read_rows<R: Rack>(
 pub fn write_row_of<R: Rack>(
     rack: &mut R,
     dims: Dims,
-    places: &[Option<u64>; ROW_PLACES],
+    places: &[Option<u64>; MOST_DISKS as usize],
     row: u64,
     buf: &[u8],
 ) -> Result<(), Failed>

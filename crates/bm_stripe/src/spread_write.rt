@@ -9,9 +9,9 @@ ghost use Rattle.bm_rack.specs.Frames.{Keeps, MovesRows, HasCause, ChangesOnly};
 ghost use Rattle.bm_stripe.specs.Units.{IsSpreadUnit};
 ghost use Rattle.bm_stripe.specs.Rows.{spread_place};
 
-use crate::rows::{ROW_PLACES, write_row_of};
+use crate::rows::write_row_of;
 use crate::spot::place_in_area;
-use bm_base::{Area, Failed, Shape};
+use bm_base::{Area, Failed, MOST_DISKS, Shape};
 use bm_gf2::Spread;
 use bm_rack::Rack;
 
@@ -30,7 +30,12 @@ fn place_of_block(shape: &Shape, area: Area, spread: &Spread, row: u64, disk: u6
 }
 
 // The places of a row, on each of the D disks that of its block.
-fn places_of_row(shape: &Shape, area: Area, spread: &Spread, row: u64) -> [Option<u64>; ROW_PLACES]
+fn places_of_row(
+    shape: &Shape,
+    area: Area,
+    spread: &Spread,
+    row: u64,
+) -> [Option<u64>; MOST_DISKS as usize]
     requires columns { spread.now.map.count ≡ shape.now.m - shape.now.b }
     requires loads { (t : ℕ) → t < 2 ^ (shape.now.m - shape.now.b)
         → spread_value spread.now t < 2 ^ (shape.now.n - shape.now.m) }
@@ -39,7 +44,7 @@ fn places_of_row(shape: &Shape, area: Area, spread: &Spread, row: u64) -> [Optio
     ensures each { (disk : ℕ) → disk < 2 ^ shape.now.d
         → place_on result disk ≡ Some (spread_place shape.now area spread.now row disk) }
 {
-    let mut places = [None; ROW_PLACES];
+    let mut places = [None; MOST_DISKS as usize];
     for disk in 0..shape.dims().disks {
         places[disk as usize] = Some(place_of_block(shape, area, spread, row, u64::from(disk)));
     }

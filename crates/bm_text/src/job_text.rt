@@ -13,7 +13,7 @@ use bm_gf2::{Affine, Matrix};
 use bm_rack::{Sink, write_all_of};
 
 // Room for the lines of a job text with 52 rows.
-const JOB_ROOM: usize = 2048;
+const LINES_ROOM: usize = 2048;
 
 /// Writes a job text that gives the shape and the map, by its rows and its constant. It takes no
 /// memory.
@@ -32,7 +32,7 @@ pub fn write_job<K: Sink>(sink: &mut K, shape: &Shape, map: &Affine) -> Result<(
 }
 
 // The lines of a job text.
-fn job_lines(shape: &Shape, map: &Affine) -> ArrayString<JOB_ROOM>
+fn job_lines(shape: &Shape, map: &Affine) -> ArrayString<LINES_ROOM>
     ensures { result.bytes ≡ job_text shape.now map.now }
 {
     let mut text = job_head(shape);
@@ -43,7 +43,7 @@ fn job_lines(shape: &Shape, map: &Affine) -> ArrayString<JOB_ROOM>
 }
 
 // The table of the shape, and what stands before the rows of the map.
-fn job_head(shape: &Shape) -> ArrayString<JOB_ROOM>
+fn job_head(shape: &Shape) -> ArrayString<LINES_ROOM>
     ensures bytes { result.bytes ≡ job_head shape.now }
     ensures short { array_string_len result ≤ 128 }
 {
@@ -58,7 +58,7 @@ fn job_head(shape: &Shape) -> ArrayString<JOB_ROOM>
 }
 
 // Puts the rows of a matrix at the end, with a comma and a space between each two.
-fn push_rows(text: &mut ArrayString<JOB_ROOM>, a: &Matrix)
+fn push_rows(text: &mut ArrayString<LINES_ROOM>, a: &Matrix)
     requires room { array_string_len text.old ≤ 128 }
     ensures bytes { text.new.bytes ≡ text.old.bytes ++ row_list (first_rows a.now a.now.n) }
     ensures short { array_string_len text.new ≤ array_string_len text.old + 22 * a.now.n }

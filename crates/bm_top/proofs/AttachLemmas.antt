@@ -4,11 +4,11 @@ use Rattle.bm_base.specs.declared.dims.Dims.{Dims}
 use Rattle.bm_base.specs.Count.{Rose}
 use Rattle.bm_base.specs.Shape.{dims_of}
 use Rattle.bm_rack.specs.RackView.{RackView, IsWellFormed}
-use Rattle.bm_rack.specs.Frames.{Keeps, RaisesCounts, HasCause}
+use Rattle.bm_rack.specs.Frames.{SameDisks, Keeps, RaisesCounts, HasCause}
 use Rattle.bm_top.specs.declared.disks.DisksError.{DisksError}
 use Rattle.bm_top.specs.declared.disks.DisksError.TheVariants as disks
 use Rattle.bm_top.specs.Causes.{CauseOf, Attaches}
-use Rattle.bm_top.specs.Disks.{SameDisks, AttachRefusal, disks_status}
+use Rattle.bm_top.specs.Disks.{AttachRefusal, disks_status}
 use Rattle.bm_top.specs.Exits.{AttachedFrom}
 use Rattle.bm_top.specs.Moment.{Devices, Tells}
 use Rattle.bm_top.specs.Status.{IsOfInput, IsOfSlate}

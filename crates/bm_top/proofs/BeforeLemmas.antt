@@ -5,14 +5,13 @@ use Rattle.bm_base.specs.Contents.{RackUnit, unit_at}
 use Rattle.bm_base.specs.Count.{raised}
 use Rattle.bm_base.specs.Shape.{dims_of, input_size}
 use Rattle.bm_rack.specs.RackView.{RackView, IsWellFormed}
-use Rattle.bm_rack.specs.Frames.{Keeps, HasCause, DirtiesOnly}
+use Rattle.bm_rack.specs.Frames.{SameDisks, Keeps, HasCause, DirtiesOnly}
 use Rattle.bm_rack.specs.Image.{SameInput}
 use Rattle.bm_rack.proofs.FrameLemmas.{Keeps-trans, HasCause-later}
 use Rattle.bm_control.specs.Sound.{IsSound}
 use Rattle.bm_job.specs.Runs.{MovesFew, SameContents}
 use Rattle.bm_disks.specs.Input.{IsRead}
 use Rattle.bm_top.specs.Causes.{HasDisks, GoesOn, Attaches}
-use Rattle.bm_top.specs.Disks.{SameDisks}
 use Rattle.bm_top.specs.Exits.{CallsGrow, AttachedFrom, KeepsUnits, EachExit}
 use Rattle.bm_top.specs.Status.{IsBeforeDisks}
 use Rattle.bm_top.specs.Moment.{Devices, Tells, TellsRack}

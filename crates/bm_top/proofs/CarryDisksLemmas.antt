@@ -3,13 +3,13 @@ use Rattle.std.proofs.Common.{◌≡◌, ◌≢◌, inl, inr, ⊎_elim, IsTrue, 
 use Rattle.bm_base.specs.Count.{Rose}
 use Rattle.bm_base.specs.Shape.{dims_of}
 use Rattle.bm_rack.specs.RackView.{RackView, IsWellFormed}
-use Rattle.bm_rack.specs.Frames.{RaisesCounts, Keeps, HasCause}
+use Rattle.bm_rack.specs.Frames.{SameDisks, RaisesCounts, Keeps, HasCause}
 use Rattle.bm_control.specs.Pages.{job_gate}
 use Rattle.bm_control.proofs.ImageLemmas.{zeros_closed}
 use Rattle.bm_top.specs.Causes.{CauseOf}
 use Rattle.bm_top.specs.declared.disks.DisksError.{DisksError}
 use Rattle.bm_top.specs.declared.disks.DisksError.TheVariants as disks
-use Rattle.bm_top.specs.Disks.{SameDisks, NewDisks, SameOrNewDisks, DisksRefusal, disks_status}
+use Rattle.bm_top.specs.Disks.{NewDisks, SameOrNewDisks, DisksRefusal, disks_status}
 use Rattle.bm_top.specs.Moment.{Devices, Tells}
 use Rattle.bm_top.specs.Status.{IsOfInput}
 use Rattle.bm_top.specs.TopCall.{TaskCall, NoFaults, IsDoneUnlessMemory}

@@ -8,6 +8,7 @@ use Rattle.bm_base.specs.Records.{record_in}
 use Rattle.bm_base.specs.Shape.{dims_of, stripes, load_stripes, loads_of}
 use Rattle.bm_base.proofs.RecordLemmas.{bytes_of-same}
 use Rattle.bm_base.proofs.ShapeLemmas.{loads_rows}
+use Rattle.bm_base.proofs.CountLemmas.{rose_earlier}
 use Rattle.bm_forms.specs.declared.job.Job.{Job}
 use Rattle.bm_forms.specs.Job.{HasBits, JobFits}
 use Rattle.bm_forms.specs.declared.job.Job.TheVariants.{Permute, Walsh}
@@ -40,7 +41,6 @@ use Rattle.bm_top.proofs.CarryWholeLemmas.{whole_loaded}
 use Rattle.bm_top.proofs.ExitLemmas.{CallsGrow-trans, AppendsFront-none}
 use Rattle.bm_top.proofs.CarryRanLemmas.{other_shape, other_job, job_passes, not_done, carry_stands}
 use Rattle.bm_top.proofs.RanLemmas.{Ran, ran_grow}
-use Rattle.bm_job.proofs.FaultLemmas.{rose_earlier}
 
 may_dump : (answer : Status) → DumpMay answer → CarryMay answer
 may_dump Done is = tt

@@ -6,6 +6,7 @@ use Rattle.bm_base.specs.Gate.{open_gate}
 use Rattle.bm_base.specs.Contents.{page_at}
 use Rattle.bm_base.specs.Count.{raised, Rose}
 use Rattle.bm_base.specs.Shape.{stripes, input_size}
+use Rattle.bm_base.proofs.CountLemmas.{rose_earlier}
 use Rattle.bm_rack.specs.RackView.{IsClean}
 use Rattle.bm_rack.specs.Image.{InEveryImage}
 use Rattle.bm_rack.specs.Frames.{RackCall, MakesCalls}
@@ -30,7 +31,6 @@ use Rattle.bm_top.specs.declared.words.Verb.TheVariants.{Carry}
 use Rattle.bm_top.specs.declared.status.Status.TheVariants.{Done, OutOfMemory, RackFault, Exists, SinkFault}
 use Rattle.bm_top.proofs.CarryWholeLemmas.{whole_in_load}
 use Rattle.bm_top.proofs.ExitLemmas.{CallsGrow-same, CallsGrow-trans, AppendsFront-none}
-use Rattle.bm_job.proofs.FaultLemmas.{rose_earlier}
 use Rattle.bm_top.proofs.FaultLemmas.{cause_later}
 
 -- what the load of records says

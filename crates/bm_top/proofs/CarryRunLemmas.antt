@@ -1,6 +1,7 @@
 -- A carry whose job is not done.
 use Rattle.std.proofs.Common.{◌≡◌, ◌≢◌, inl, inr, Err, IsErrOf, refl, sym, ap, subst, ◌∙◌, arith}
 use Rattle.bm_base.specs.declared.report.RunReport.{RunReport}
+use Rattle.bm_base.proofs.CountLemmas.{rose_earlier}
 use Rattle.bm_rack.specs.RackView.{RackView}
 use Rattle.bm_rack.specs.Sink.{AppendsFront}
 use Rattle.bm_rack.proofs.FrameLemmas.{Keeps-trans}
@@ -20,7 +21,6 @@ use Rattle.bm_top.specs.declared.status.Status.TheVariants.{Done, OutOfMemory, R
 use Rattle.bm_top.proofs.CarryWholeLemmas.{whole_loaded}
 use Rattle.bm_top.proofs.ExitLemmas.{CallsGrow-trans, AppendsFront-none}
 use Rattle.bm_top.proofs.RanLemmas.{Ran, ran_grow}
-use Rattle.bm_job.proofs.FaultLemmas.{rose_earlier}
 use Rattle.bm_top.proofs.FaultLemmas.{cause_later}
 
 -- what was just loaded can be run

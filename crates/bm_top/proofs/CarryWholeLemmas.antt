@@ -7,11 +7,12 @@ use Rattle.bm_base.specs.Gate.{IsClosedGate}
 use Rattle.bm_base.specs.Shape.{dims_of, input_size}
 use Rattle.bm_rack.specs.RackView.{RackView, IsClean}
 use Rattle.bm_rack.specs.Image.{InEveryImage, SameInput}
+use Rattle.bm_rack.specs.Frames.{SameDisks}
 use Rattle.bm_control.specs.Pages.{load_gate, HasClosedLoad}
 use Rattle.bm_control.proofs.ImageLemmas.{settled_in_image, settled_clean, zeros_closed}
 use Rattle.bm_job.proofs.EndLemmas.{same_input_records}
 use Rattle.bm_disks.specs.Loading.{HoldsInput, HasLoadOf, OpensWhole}
-use Rattle.bm_top.specs.Disks.{SameDisks, NewDisks, SameOrNewDisks}
+use Rattle.bm_top.specs.Disks.{NewDisks, SameOrNewDisks}
 use Rattle.bm_top.specs.commands.Carry.{IsWhole}
 
 -- where nothing stands there is no image

@@ -4,6 +4,7 @@ use Rattle.bm_base.specs.declared.shape.Shape.{Shape}
 use Rattle.bm_base.specs.Contents.{Contents, unit_at}
 use Rattle.bm_base.specs.Count.{raised, Rose}
 use Rattle.bm_base.specs.Shape.{stripes}
+use Rattle.bm_base.proofs.CountLemmas.{rose_earlier}
 use Rattle.bm_gf2.specs.declared.affine.Affine.{Affine}
 use Rattle.bm_gf2.specs.Matrix.{IsNonsingular}
 use Rattle.bm_rack.specs.RackView.{RackView}
@@ -29,7 +30,6 @@ use Rattle.bm_top.specs.declared.words.Verb.TheVariants as verbs
 use Rattle.bm_top.specs.declared.status.Status.{Status}
 use Rattle.bm_top.specs.declared.status.Status.TheVariants.{Done, RackFault, SinkFault}
 use Rattle.bm_top.proofs.ExitLemmas.{CallsGrow-trans, IsRead-none}
-use Rattle.bm_job.proofs.FaultLemmas.{rose_earlier}
 use Rattle.bm_top.proofs.StatusLemmas.{no_fault}
 
 -- what a detection said of records that were seen

@@ -4,7 +4,7 @@ use Rattle.bm_base.specs.declared.report.DrillReport.{DrillReport}
 use Rattle.bm_base.specs.Count.{Rose}
 use Rattle.bm_base.specs.declared.fault.OutOfMemory.{OutOfMemory as NoMemory}
 use Rattle.bm_base.proofs.RecordLemmas.{bytes_of-same}
-use Rattle.bm_drill.specs.Drill.{DrillLeaves as Drilled, DrillCounts, SessionCounts}
+use Rattle.bm_drill.specs.Drill.{IsDrilled, DrillCounts, SessionCounts}
 use Rattle.bm_rack.specs.RackView.{RackView}
 use Rattle.bm_rack.specs.Sink.{AppendsFront}
 use Rattle.bm_rack.proofs.FrameLemmas.{Keeps-refl}
@@ -23,7 +23,7 @@ use Rattle.bm_top.proofs.ExitLemmas.{SameCalls-refl, CallsGrow-same, IsRead-none
 
 -- what a drill with the plan of the task tells
 drill_told : (task : Task) (passes : ℕ) (report : DrillReport) (new : RackView) → passes ≡ plan_of task
-    → Drilled task.shape task.job task.start report new
+    → IsDrilled task.shape task.job task.start report new
     → SessionCounts task.shape task.job passes task.every (length task.stops) report → IsDrillOf task report
 drill_told task passes report new is left counts = record {
   digest = left.digest ∙ ap sha256 (bytes_of-same (2 ^ task.shape.n) _ _ left.records);
@@ -31,7 +31,7 @@ drill_told task passes report new is left counts = record {
 }
 
 pub drill_told_ok : (task : Task) (passes : ℕ) (result : Result DrillReport NoMemory) (old new : RackView) → passes ≡ plan_of task
-    → IfOk result (λ report. Drilled task.shape task.job task.start report new)
+    → IfOk result (λ report. IsDrilled task.shape task.job task.start report new)
     → IfOk result (λ report. DrillCounts task.shape task.job passes task.every (length task.stops) report old new)
     → IfOk result (λ report. IsDrillOf task report)
 drill_told_ok task passes (Ok report) old new is left counts = drill_told task passes report new is left counts.sessions

@@ -157,12 +157,12 @@ dumped_late (Err dump.Failed) (inr of) = of
 dumped_late (Err dump.SinkFault) (inl of) = of
 dumped_late (Err dump.SinkFault) (inr of) = of
 
-dumped_ok : (r : Result (Unit {0}) DumpError) → dump_answer r ≡ Done → IsOk r
+pub dumped_ok : (r : Result (Unit {0}) DumpError) → dump_answer r ≡ Done → IsOk r
 dumped_ok (Ok x) is = refl
 dumped_ok (Err dump.Failed) is = absurd (cc)
 dumped_ok (Err dump.SinkFault) is = absurd (cc)
 
-dumped_failed : (r : Result (Unit {0}) DumpError) → dump_answer r ≡ RackFault → r ≡ Err dump.Failed
+pub dumped_failed : (r : Result (Unit {0}) DumpError) → dump_answer r ≡ RackFault → r ≡ Err dump.Failed
 dumped_failed (Ok x) is = absurd (cc)
 dumped_failed (Err dump.Failed) is = refl
 dumped_failed (Err dump.SinkFault) is = absurd (cc)
@@ -174,7 +174,7 @@ dumped_cause t task d e (Ok x) stand sink rack = stand
 dumped_cause t task d e (Err dump.Failed) stand sink rack = rack.rose refl
 dumped_cause t task d e (Err dump.SinkFault) stand sink rack = (stand, sink refl)
 
-dumped_complete : (d e : Devices) (r : Result (Unit {0}) DumpError) → (r ≡ Err dump.SinkFault → Rose d.out.faults e.out.faults)
+pub dumped_complete : (d e : Devices) (r : Result (Unit {0}) DumpError) → (r ≡ Err dump.SinkFault → Rose d.out.faults e.out.faults)
     → HasCause (r ≡ Err dump.Failed) d.rack e.rack → NoFaults d e → IsDoneUnlessMemory (dump_answer r)
 dumped_complete d e (Ok x) sink rack calm = inl refl
 dumped_complete d e (Err dump.Failed) sink rack calm = absurd (calm.rack (rack.rose refl))

@@ -6,11 +6,11 @@ use Rattle.bm_base.specs.declared.dims.Dims.{Dims}
 use Rattle.bm_rack.specs.RackView.{RackView, IsWellFormed}
 use Rattle.bm_rack.specs.Image.{SameInput}
 use Rattle.bm_rack.specs.Sink.{AppendsFront}
+use Rattle.bm_rack.specs.Frames.{SameCalls, SameDisks}
 use Rattle.bm_rack.proofs.FrameLemmas.{Keeps-refl}
 use Rattle.bm_job.specs.Runs.{CallsFew, MovesFew}
 use Rattle.bm_disks.specs.Input.{IsRead}
-use Rattle.bm_top.specs.Disks.{SameDisks}
-use Rattle.bm_top.specs.Exits.{SameCalls, CallsGrow, AttachedFrom, KeepsUnits, EachExit}
+use Rattle.bm_top.specs.Exits.{CallsGrow, AttachedFrom, KeepsUnits, EachExit}
 use Rattle.bm_top.specs.Moment.{Devices, Tells}
 use Rattle.bm_top.specs.declared.task.Task.{Task}
 use Rattle.bm_top.specs.declared.words.Verb.{Verb}

@@ -3,6 +3,7 @@ use Rattle.std.proofs.Common.{Ok, Err, ◌≡◌, ◌≢◌, inl, ℕ, ◌≤◌
 use Rattle.bm_base.specs.Contents.{Contents}
 use Rattle.bm_base.specs.Count.{Rose}
 use Rattle.bm_base.specs.Shape.{dims_of}
+use Rattle.bm_base.proofs.CountLemmas.{rose_earlier}
 use Rattle.bm_rack.specs.RackView.{RackView}
 use Rattle.bm_rack.specs.Frames.{Keeps, RackCall, HasCause}
 use Rattle.bm_rack.specs.Image.{SameInput}
@@ -11,7 +12,6 @@ use Rattle.bm_control.specs.declared.state.SlateState.TheVariants.{Working}
 use Rattle.bm_control.specs.PageCalls.{MakesPageCalls}
 use Rattle.bm_control.specs.Sound.{IsSound}
 use Rattle.bm_control.specs.State.{StateAnswer}
-use Rattle.bm_job.proofs.FaultLemmas.{rose_earlier}
 use Rattle.bm_disks.specs.declared.job_opening.OpenJob.{OpenJob}
 use Rattle.bm_disks.specs.declared.job_opening.OpenError.{OpenError}
 use Rattle.bm_disks.specs.declared.job_opening.OpenError.TheVariants as opening

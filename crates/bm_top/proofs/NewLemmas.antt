@@ -4,14 +4,14 @@ use Rattle.bm_base.specs.Count.{Rose}
 use Rattle.bm_base.specs.Gate.{IsClosedGate}
 use Rattle.bm_base.specs.Shape.{dims_of}
 use Rattle.bm_rack.specs.RackView.{RackView, IsWellFormed}
-use Rattle.bm_rack.specs.Frames.{Keeps, RaisesCounts}
+use Rattle.bm_rack.specs.Frames.{SameDisks, Keeps, RaisesCounts}
 use Rattle.bm_control.specs.Pages.{load_gate, job_gate}
 use Rattle.bm_control.specs.Sound.{IsSound}
 use Rattle.bm_control.proofs.ImageLemmas.{settled_clean, zeros_closed}
 use Rattle.bm_control.proofs.SoundLemmas.{sound_closed}
 use Rattle.bm_top.specs.declared.disks.DisksError.{DisksError}
 use Rattle.bm_top.specs.declared.disks.DisksError.TheVariants as disks
-use Rattle.bm_top.specs.Disks.{SameDisks, NewDisks, CreateRefusal, disks_status}
+use Rattle.bm_top.specs.Disks.{NewDisks, CreateRefusal, disks_status}
 use Rattle.bm_top.specs.Moment.{Devices, Tells}
 use Rattle.bm_top.specs.TopCall.{TaskCall}
 use Rattle.bm_top.specs.declared.task.Task.{Task}

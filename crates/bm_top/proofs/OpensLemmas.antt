@@ -5,11 +5,11 @@ use Rattle.bm_base.specs.declared.shape.Shape.{Shape}
 use Rattle.bm_base.specs.Contents.{Contents, RackUnit, page_unit, unit_at}
 use Rattle.bm_rack.specs.RackView.{RackView}
 use Rattle.bm_rack.specs.Image.{IsImage, InEveryImage, IsInputUnit}
+use Rattle.bm_rack.specs.Frames.{SameDisks}
 use Rattle.bm_control.specs.Pages.{HasClosedLoad}
 use Rattle.bm_control.specs.Sound.{IsSound}
 use Rattle.bm_control.proofs.SoundLemmas.{one_size}
 use Rattle.bm_disks.specs.Loading.{HasLoadOf, OpensWhole}
-use Rattle.bm_top.specs.Disks.{SameDisks}
 use Rattle.bm_top.proofs.SameDisksLemmas.{image_kept}
 
 -- an image with the load of disks that are as before has the load of before

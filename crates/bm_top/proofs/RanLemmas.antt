@@ -12,7 +12,7 @@ use Rattle.bm_forms.specs.declared.job.Job.{Job}
 use Rattle.bm_forms.specs.Job.{meaning}
 use Rattle.bm_forms.specs.PassLimit.{limit_of}
 use Rattle.bm_rack.specs.RackView.{RackView}
-use Rattle.bm_rack.specs.Frames.{RackCall}
+use Rattle.bm_rack.specs.Frames.{SameDisks, RackCall}
 use Rattle.bm_rack.specs.Image.{InEveryImage, SameInput}
 use Rattle.bm_control.specs.Consistent.{input_of}
 use Rattle.bm_control.specs.Pages.{job_body, job_gate, HasOpenJob, HasClosedJob}
@@ -21,7 +21,6 @@ use Rattle.bm_job.specs.declared.answers.RunError.{RunError}
 use Rattle.bm_job.specs.declared.answers.RunError.TheVariants as run
 use Rattle.bm_job.specs.Runs.{most_pages, most_syncs, RunAnswer, ReportFits, RefusalKeeps, RunDone, RunFailed, RunCalls, CallsFew}
 use Rattle.bm_job.specs.Runs.{KeepsJobs, KeepsOpenJob, HasOpenBody, MovesFew, load_rows, IsRunUnit, IsRunnable}
-use Rattle.bm_top.specs.Disks.{SameDisks}
 use Rattle.bm_top.specs.Exits.{CallsGrow, AttachedFrom}
 use Rattle.bm_top.specs.Moment.{Tells}
 use Rattle.bm_top.specs.declared.task.Task.{Task}

@@ -30,7 +30,7 @@ use Rattle.bm_top.specs.Moment.{SinkView, Devices, Tells, TellsRack}
 use Rattle.bm_top.specs.Status.{IsBeforeDisks, IsOfSlate}
 use Rattle.bm_top.specs.Task.{TaskFits}
 use Rattle.bm_top.specs.TopCall.{TaskCall, NoFaults, IsDoneUnlessMemory}
-use Rattle.bm_top.specs.commands.Run.{RunMay, plan_of, bound_of, HasRun, RunCase, RunLeaves, RunSession, RunCut, IsLoadUnit}
+use Rattle.bm_top.specs.commands.Run.{RunMay, plan_of, bound_of, HasRun, RunCase, RunLeaves, RunSession, RunCut, IsNoRunUnit}
 use Rattle.bm_top.specs.declared.task.Task.{Task}
 use Rattle.bm_top.specs.declared.words.Verb.TheVariants.{Run}
 use Rattle.bm_top.specs.declared.status.Status.{Status}
@@ -97,7 +97,7 @@ refused_leaves : (t : Tells) (task : Task) (d : Devices) (before mid new : RackV
     → Ran t task (plan_of task) mid new (Err e) → RunLeaves t task (record d { rack = before }) (run_status e) (record d { rack = new })
 refused_leaves t task d before mid new e from ran = record {
   same = input_before _ before mid new from.disks ran.input;
-  load = units_before (IsRunUnit task.shape) (IsLoadUnit task) before mid new from.disks ran.call.frame (λ u q. q);
+  load = units_before (IsRunUnit task.shape) (IsNoRunUnit task) before mid new from.disks ran.call.frame (λ u q. q);
   most = moves_before (bound_of task) before mid new from.calls.moves ran.most;
   calls = few_before _ _ before mid new from.calls.pages from.calls.syncs ran.few;
   session = inr (session t task (record d { rack = before }) (record d { rack = new }) mid (run_status e) (Err e) from ran (λ is. ap Err
@@ -227,7 +227,7 @@ done_leaves : (t : Tells) (task : Task) (old new : Devices) (mid : RackView) (an
     → RunLeaves t task old answer new
 done_leaves t task old new mid answer r from ran calm late fine input cut written = record {
   same = input_before _ old.rack mid new.rack from.disks ran.input;
-  load = units_before (IsRunUnit task.shape) (IsLoadUnit task) old.rack mid new.rack from.disks ran.call.frame (λ u q. q);
+  load = units_before (IsRunUnit task.shape) (IsNoRunUnit task) old.rack mid new.rack from.disks ran.call.frame (λ u q. q);
   most = moves_before (bound_of task) old.rack mid new.rack from.calls.moves ran.most;
   calls = few_before _ _ old.rack mid new.rack from.calls.pages from.calls.syncs ran.few;
   session = inr (session t task old new mid answer (Ok r) from ran (λ is. absurd (calm is)));

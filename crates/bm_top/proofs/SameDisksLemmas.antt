@@ -3,12 +3,10 @@ use Rattle.std.proofs.Common.{Bool, sym, ap, ◌∙◌}
 use Rattle.bm_base.specs.declared.dims.Dims.{Dims}
 use Rattle.bm_base.specs.Contents.{Contents, RackUnit, unit_at}
 use Rattle.bm_rack.specs.RackView.{RackView, IsWellFormed}
-use Rattle.bm_rack.specs.Frames.{RaisesCounts}
+use Rattle.bm_rack.specs.Frames.{SameCalls, SameDisks, RaisesCounts}
 use Rattle.bm_rack.specs.Image.{IsImage}
 use Rattle.bm_rack.proofs.FrameLemmas.{raised-zero}
 use Rattle.bm_control.specs.Sound.{IsSound}
-use Rattle.bm_top.specs.Disks.{SameDisks}
-use Rattle.bm_top.specs.Exits.{SameCalls}
 
 -- an image after is one from before
 pub image_kept : (old new : RackView) (dims : Dims) (image : Contents) → SameDisks old new → IsImage dims new image → IsImage dims old image

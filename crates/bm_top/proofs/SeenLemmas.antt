@@ -4,6 +4,7 @@ use Rattle.bm_base.specs.declared.shape.Shape.{Shape}
 use Rattle.bm_base.specs.Contents.{Contents, page_at}
 use Rattle.bm_base.specs.Count.{Rose}
 use Rattle.bm_base.specs.Shape.{dims_of}
+use Rattle.bm_base.proofs.CountLemmas.{rose_earlier}
 use Rattle.bm_rack.specs.RackView.{RackView, IsWellFormed}
 use Rattle.bm_rack.proofs.FrameLemmas.{Keeps-trans, HasCause-later}
 use Rattle.bm_control.specs.declared.state.SlateState.{SlateState}
@@ -27,7 +28,6 @@ use Rattle.bm_top.specs.declared.task.Task.{Task}
 use Rattle.bm_top.specs.declared.words.Verb.TheVariants as verbs
 use Rattle.bm_top.proofs.AttachedLemmas.{disks_stand}
 use Rattle.bm_top.proofs.DumpLemmas.{few_none}
-use Rattle.bm_job.proofs.FaultLemmas.{rose_earlier}
 use Rattle.bm_top.proofs.LookLemmas.{JobLooked, looks, looks_same, look_cause, look_not_done, look_not_sink, look_grow, look_refused}
 use Rattle.bm_top.proofs.SameDisksLemmas.{sound_kept}
 

@@ -1,12 +1,11 @@
 -- The call by the form of its words.
-use Rattle.std.proofs.Common.{◌≡◌, ◌≢◌, inl, inr, ⊎_elim, ℕ, ◌<◌, ◌≤◌, Bool, IsTrue, List, [], length, String, Global, Result, Ok, Err}
+use Rattle.std.proofs.Common.{◌≡◌, ◌≢◌, inl, inr, ⊎_elim, ℕ, ◌≤◌, Bool, IsTrue, List, [], length, String, Global, Result, Ok, Err}
 use Rattle.std.proofs.Common.{IfOk, IfErr, IsErrOf, refl, sym, ap, subst, ◌∙◌}
 use Rattle.bm_base.specs.declared.shape.Shape.{Shape}
 use Rattle.bm_base.specs.ShapeRules.{broken_rule}
 use Rattle.bm_base.proofs.EqualLemmas.{shape_equal, broken_rule-kept}
 use Rattle.bm_jobfile.specs.declared.job_file.JobFile.{JobFile}
 use Rattle.bm_jobfile.specs.JobFile.{IsJobFile}
-use Rattle.bm_disks.specs.Input.{IsRead}
 use Rattle.bm_top.specs.Causes.{CauseOf}
 use Rattle.bm_top.specs.JobRead.{JobCause, JobRead, TakesShape}
 use Rattle.bm_top.specs.Moment.{SourceView, Devices, Moment, Tells}
@@ -96,22 +95,18 @@ task_known {t} {verb} {task} {old} {answer} {new} call e =
 -- ---- a command that has a job
 
 -- the task of a text is that of the source that held it
-pub holds_task : (told : Bool) (v : SourceView) (text : List ℕ) (result : Result Task Status) → (IsTrue told → v.left ≡ text)
+pub holds_task : (told : Bool) (v : SourceView) (text : List ℕ) (result : Result Task Status) → (IsTrue told → text ≡ v.left)
     → IfOk result (λ task. (file : JobFile) × IsJobFile text file × IsTaskOf file task) → IfOk result (λ task. HoldsTask told v task)
 holds_task told v text (Err e) same is = tt
-holds_task told v text (Ok task) same is =
-    λ t. (is.0, subst (λ (x : List ℕ). IsJobFile x is.0) (sym (same t)) is.1, is.2)
+holds_task told v text (Ok task) same is = λ t. (is.0, subst (λ (x : List ℕ). IsJobFile x is.0) (same t) is.1, is.2)
 
 -- and so is its refusal
-pub text_refused : (verb : Verb) (told : Bool) (old new : SourceView) (text : List ℕ) (result : Result Task Status) (most got : ℕ)
-    → (IsTrue told → old.left ≡ text) → ¬ IsErrOf result JobFault → IfErr result (λ status. JobCause verb text status)
-    → most ≡ 65537 → got < most → (IsTrue told → (got ≡ length old.left) × (new.left ≡ [])) → (IsTrue told → IsRead most old.left new.left)
-    → old.faults ≤ new.faults
-    → IfErr result (λ status. JobRead verb told old status new)
-text_refused verb told old new text (Ok task) most got same calm cause is short end few low = tt
-text_refused verb told old new text (Err status) most got same calm cause is short end few low =
-    source_ended verb told status old new most got is (λ e. calm (ap Err e)) short end few low
-    (λ t. subst (λ (x : List ℕ). JobCause verb x status) (sym (same t)) cause)
+pub text_refused : (verb : Verb) (told : Bool) (old new : SourceView) (text : List ℕ) (result : Result Task Status)
+    → (IsTrue told → text ≡ old.left) → (IsTrue told → (new.left ≡ []) × (length old.left ≤ 65536)) → old.faults ≤ new.faults
+    → ¬ IsErrOf result JobFault → IfErr result (λ status. JobCause verb text status) → IfErr result (λ status. JobRead verb told old status new)
+text_refused verb told old new text (Ok task) same end low calm cause = tt
+text_refused verb told old new text (Err status) same end low calm cause =
+    source_ended verb told status old new (λ e. calm (ap Err e)) end low (λ t. subst (λ (x : List ℕ). JobCause verb x status) (same t) cause)
 
 -- once its task was taken
 pub job_done : (t : Tells) (verb : Verb) (task : Task) (old : Moment) (answer : Status) (new : Moment) → HoldsTask t.job old.job task

@@ -3,16 +3,11 @@ use Rattle.std.specs.Prelude.{◌≡◌, ◌⊎◌, Bool, IsTrue, Some, None}
 use Rattle.bm_base.specs.declared.dims.Dims.{Dims}
 use Rattle.bm_rack.specs.RackView.{RackView, IsClean}
 use Rattle.bm_rack.specs.Calls.{IsBlank}
+use Rattle.bm_rack.specs.Frames.{SameDisks}
 use Rattle.bm_top.specs.declared.disks.DisksError.{DisksError}
 use Rattle.bm_top.specs.declared.disks.DisksError.TheVariants.{RackFault, OutOfMemory, Exists, NoDisks, WrongDims}
 use Rattle.bm_top.specs.declared.status.Status.{Status}
 use Rattle.bm_top.specs.declared.status.Status.TheVariants as status
-
--- what stands, its bytes and what is dirty are as before
-pub record SameDisks (old new : RackView) : Type 0 where
-  pub stands : new.stands ≡ old.stands
-  pub contents : new.contents ≡ old.contents
-  pub dirty : new.dirty ≡ old.dirty
 
 -- where nothing stood, disks of zeros stand, with nothing dirty
 pub record NewDisks (told_stands told_contents : Bool) (dims : Dims) (old new : RackView) : Type 0 where

@@ -3,10 +3,9 @@ use Rattle.std.specs.Prelude.{◌≡◌, ◌⊎◌, ◌+◌, ◌≤◌, false, I
 use Rattle.bm_base.specs.Contents.{RackUnit, unit_at}
 use Rattle.bm_base.specs.Shape.{dims_of, input_size}
 use Rattle.bm_rack.specs.RackView.{RackView}
-use Rattle.bm_rack.specs.Frames.{Keeps, HasCause}
+use Rattle.bm_rack.specs.Frames.{SameCalls, SameDisks, Keeps, HasCause}
 use Rattle.bm_control.specs.Sound.{IsSound}
 use Rattle.bm_disks.specs.Input.{IsRead}
-use Rattle.bm_top.specs.Disks.{SameDisks}
 use Rattle.bm_top.specs.Status.{IsBeforeDisks}
 use Rattle.bm_top.specs.Moment.{Devices, Tells, TellsRack}
 use Rattle.bm_top.specs.declared.task.Task.{Task}
@@ -14,12 +13,6 @@ use Rattle.bm_top.specs.declared.words.Verb.{Verb}
 use Rattle.bm_top.specs.declared.words.Verb.TheVariants.{New, Carry}
 use Rattle.bm_top.specs.declared.status.Status.{Status}
 use Rattle.bm_top.specs.declared.status.Status.TheVariants.{OutOfMemory, RackFault}
-
--- no row call, page call and sync was made, or the counts stand still at their end
-pub record SameCalls (old new : RackView) : Type 0 where
-  pub moves : new.moves ≡ old.moves
-  pub pages : new.pages ≡ old.pages
-  pub syncs : new.syncs ≡ old.syncs
 
 -- no count of calls fell
 pub record CallsGrow (old new : RackView) : Type 0 where

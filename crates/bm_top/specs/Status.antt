@@ -50,6 +50,13 @@ RefusesJob (JobShape rule) = Unit {0}
 RefusesJob (JobMap fault) = Unit {0}
 RefusesJob _ = ⊥
 
+-- the answer may come before the text of the job is known to be a document
+abbrev pub IsBeforeDocument : Status → Type 0
+IsBeforeDocument OutOfMemory = Unit {0}
+IsBeforeDocument JobFault = Unit {0}
+IsBeforeDocument JobText = Unit {0}
+IsBeforeDocument _ = ⊥
+
 -- the answer may come before the job is read
 abbrev pub IsBeforeTask : Status → Type 0
 IsBeforeTask OutOfMemory = Unit {0}

@@ -1,8 +1,8 @@
 //! Making and attaching the disks of a shape.
 
 ghost use Rattle.std.specs.Prelude.{◌≡◌, Some, None, IsOk, IsErr, IsTrue, IfErr};
-ghost use Rattle.bm_rack.specs.Frames.{RaisesCounts, Keeps, HasCause};
-ghost use Rattle.bm_top.specs.Disks.{SameDisks, NewDisks, AttachRefusal, CreateRefusal};
+ghost use Rattle.bm_rack.specs.Frames.{SameDisks, RaisesCounts, Keeps, HasCause};
+ghost use Rattle.bm_top.specs.Disks.{NewDisks, AttachRefusal, CreateRefusal};
 ghost use Rattle.bm_top.specs.Disks.{DisksRefusal, disks_status};
 
 use crate::Status;

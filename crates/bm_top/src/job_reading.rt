@@ -10,9 +10,9 @@ ghost use Rattle.bm_top.specs.JobRead.{JobCause, JobRead, TakesShape, RefusesSha
 ghost use Rattle.bm_top.specs.Moment.{source_of};
 ghost use Rattle.bm_top.specs.Task.{IsTaskOf, HoldsTask, TaskFits};
 
+use crate::source_text::job_text;
 use crate::{Status, Task, Verb};
-use bm_base::{MOST_TEXT_BYTES, Shape};
-use bm_disks::{FillError, fill};
+use bm_base::Shape;
 use bm_jobfile::{JobError, read_job};
 use bm_named::MapFault;
 use bm_rack::Source;
@@ -23,9 +23,6 @@ const MOST_DRILL_BYTES: u64 = 1 << 26;
 
 // The rule of a shape that is the drill's own.
 const DRILL_RULE: u8 = 8;
-
-// The bytes that are asked for of a job source: one more than a job text has at most.
-const JOB_ROOM: usize = MOST_TEXT_BYTES + 1;
 
 // Whether the records of a shape are few enough for a drill.
 fn is_small(shape: &Shape) -> bool
@@ -103,35 +100,8 @@ fn task_of(alloc: Global, verb: Verb, text: &[u8]) -> Result<Task, Status>
     }
 }
 
-// The task that a source holds, read through a buffer, or why it is refused.
-fn task_through<J: Source>(
-    alloc: Global,
-    verb: Verb,
-    job: &mut J,
-    text: &mut [u8],
-) -> Result<Task, Status>
-    requires { length text.old ≡ 65537 }
-    ensures task { IfOk result (λ task. HoldsTask J.tells
-        (source_of (J.left job.old) (J.faults job.old)) task) }
-    ensures fits { IfOk result (λ task. TaskFits task) }
-    ensures takes { IfOk result (λ task. TakesShape verb task.shape) }
-    ensures refusal { IfErr result (λ status. IsBeforeTask status) }
-    ensures refused { IfErr result (λ status. JobRead verb J.tells
-        (source_of (J.left job.old) (J.faults job.old)) status
-        (source_of (J.left job.new) (J.faults job.new))) }
-    ensures ended { IsTrue J.tells → IsOk result
-        → (J.left job.new ≡ []) × (length (J.left job.old) ≤ 65536) }
-    ensures faults { J.faults job.old ≤ J.faults job.new }
-{
-    match fill(job, text) {
-        Ok(()) => Err(Status::JobText),
-        Err(FillError::Fault) => Err(Status::JobFault),
-        Err(FillError::Short { got }) => task_of(alloc, verb, &text[..got]),
-    }
-}
-
 /// Reads the task that a source holds for the command, or says why it is refused. No more than
-/// `JOB_ROOM` bytes are read.
+/// 65537 bytes are read.
 pub fn read_task<J: Source>(alloc: Global, verb: Verb, job: &mut J) -> Result<Task, Status>
     ensures task { IfOk result (λ task. HoldsTask J.tells
         (source_of (J.left job.old) (J.faults job.old)) task) }
@@ -145,8 +115,8 @@ pub fn read_task<J: Source>(alloc: Global, verb: Verb, job: &mut J) -> Result<Ta
         → (J.left job.new ≡ []) × (length (J.left job.old) ≤ 65536) }
     ensures faults { J.faults job.old ≤ J.faults job.new }
 {
-    let Ok(mut text) = vec![in alloc; 0u8; JOB_ROOM] else {
-        return Err(Status::OutOfMemory);
-    };
-    task_through(alloc, verb, job, &mut text)
+    match job_text(alloc, job) {
+        Ok(text) => task_of(alloc, verb, &text),
+        Err(status) => Err(status),
+    }
 }

@@ -7,7 +7,7 @@ ghost use Rattle.bm_top.specs.StatusWords.{name_of, fault_words};
 use arrayvec::ArrayString;
 use bm_base::FieldName;
 use bm_named::MapFault;
-use itoa::Buffer;
+use bm_text::push_number;
 
 /// The printed name of a field.
 pub fn field_name(which: FieldName) -> &'static str
@@ -54,8 +54,7 @@ pub fn fault_words(fault: &MapFault) -> ArrayString<64>
         MapFault::Range { i } => labelled("range ", u64::from(*i)),
         MapFault::Twice { i, j } => {
             let mut words = labelled("twice ", u64::from(*i));
-            words.push(' ');
-            words.push_str(Buffer::new().format(*j));
+            push_number(&mut words, " ", *j);
             words
         }
         MapFault::Wide { i } => labelled("wide ", u64::from(*i)),
@@ -71,7 +70,6 @@ fn labelled(label: &str, number: u64) -> ArrayString<64>
     ensures short { array_string_len result ≤ 32 }
 {
     let mut words = ArrayString::new();
-    words.push_str(label);
-    words.push_str(Buffer::new().format(number));
+    push_number(&mut words, label, number);
     words
 }

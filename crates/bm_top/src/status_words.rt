@@ -7,7 +7,7 @@ ghost use Rattle.bm_top.specs.StatusWords.{words_of};
 use crate::Status;
 use crate::job_words::{fault_words, field_name};
 use arrayvec::ArrayString;
-use itoa::Buffer;
+use bm_text::push_number;
 
 /// The words of a status. They take no memory.
 pub fn status_words(status: &Status) -> ArrayString<128>
@@ -22,7 +22,7 @@ pub fn status_words(status: &Status) -> ArrayString<128>
         Status::JobFault => words.push_str("job fault"),
         Status::JobText => words.push_str("job text"),
         Status::JobField { which } => push_text(&mut words, "job field ", field_name(*which)),
-        Status::JobShape { rule } => push_number(&mut words, "job shape rule ", u64::from(*rule)),
+        Status::JobShape { rule } => push_number(&mut words, "job shape rule ", *rule),
         Status::JobMap { fault } => push_text(&mut words, "job map ", fault_words(fault).as_str()),
         Status::DataFault => words.push_str("input fault"),
         Status::DataShort { got } => push_number(&mut words, "input short ", *got),
@@ -36,7 +36,7 @@ pub fn status_words(status: &Status) -> ArrayString<128>
         Status::OtherJob => words.push_str("other job"),
         Status::NotDone { done, all } => push_not_done(&mut words, *done, *all),
         Status::NoJob => words.push_str("no job"),
-        Status::BadPage { page } => push_number(&mut words, "bad page ", u64::from(*page)),
+        Status::BadPage { page } => push_number(&mut words, "bad page ", *page),
         Status::SinkFault => words.push_str("output fault"),
         Status::OutOfRange { x, y } => push_pair(&mut words, "out of range ", *x, *y),
         Status::NotAffine { x, y, want } => {
@@ -44,7 +44,7 @@ pub fn status_words(status: &Status) -> ArrayString<128>
             push_number(&mut words, " ", *want);
         }
         Status::NotPermutation { x } => push_number(&mut words, "not a permutation ", *x),
-        Status::BatchShape { bay } => push_number(&mut words, "batch shape ", u64::from(*bay)),
+        Status::BatchShape { bay } => push_number(&mut words, "batch shape ", *bay),
     }
     words
 }
@@ -68,8 +68,8 @@ fn push_not_done(words: &mut ArrayString<128>, done: u16, all: u16)
         ≡ words.old.bytes ++ codes "not done " ++ decimal done ++ codes " of " ++ decimal all }
     ensures short { array_string_len words.new ≤ array_string_len words.old + 64 }
 {
-    push_number(words, "not done ", u64::from(done));
-    push_number(words, " of ", u64::from(all));
+    push_number(words, "not done ", done);
+    push_number(words, " of ", all);
 }
 
 // Puts a label and two numbers in decimal, with a space between them, at the end of the words.
@@ -82,15 +82,4 @@ fn push_pair(words: &mut ArrayString<128>, label: &str, one: u64, other: u64)
 {
     push_number(words, label, one);
     push_number(words, " ", other);
-}
-
-// Puts a label and a number in decimal at the end of the words.
-fn push_number(words: &mut ArrayString<128>, label: &str, number: u64)
-    requires label { length label.now ≤ 20 }
-    requires room { array_string_len words.old ≤ 64 }
-    ensures words { words.new.bytes ≡ words.old.bytes ++ label.now ++ decimal number }
-    ensures short { array_string_len words.new ≤ array_string_len words.old + length label.now + 20 }
-{
-    words.push_str(label);
-    words.push_str(Buffer::new().format(number));
 }

@@ -21,7 +21,7 @@ use crate::commands::load::run_load;
 use crate::commands::new::run_new;
 use crate::commands::plan::run_plan;
 use crate::commands::run::run_run;
-use crate::commands::status::run_status;
+use crate::commands::status::tell_status;
 use crate::job_reading::read_task;
 use crate::task::Task;
 use crate::words::{Command, Verb, command_of};
@@ -51,7 +51,7 @@ fn run_task<R: Rack, S: Source, K: Sink>(
         Verb::Load => run_load(alloc, &task, input, rack),
         Verb::Plan => run_plan(&task, out),
         Verb::Run => run_run(alloc, &task, out, rack),
-        Verb::Status => run_status(&task, out, rack),
+        Verb::Status => tell_status(&task, out, rack),
         Verb::Dump => run_dump(alloc, &task, out, rack),
         Verb::Drop => run_drop(&task, rack),
         Verb::Detect => run_detect(alloc, &task, out, rack),

@@ -63,7 +63,7 @@ pub enum Command {
 /// The number that a word spells in its one way, where it is at most `most`.
 ///
 /// That way is decimal digits with no sign and no leading zero, but for `0` itself.
-pub fn number_of(word: &str, most: u64) -> Option<u64>
+pub fn word_number(word: &str, most: u64) -> Option<u64>
     ensures found { IfSome result (λ n. (n ≤ most) × (word.now ≡ decimal n)) }
     ensures none { IfNone result ((n : ℕ) → n ≤ most → word.now ≢ decimal n) }
 {
@@ -84,7 +84,7 @@ fn byte_of(word: &str) -> Option<u8>
     ensures found { IfSome result (λ n. (n < 2 ^ 8) × (word.now ≡ decimal n)) }
     ensures none { IfNone result ((n : ℕ) → n < 2 ^ 8 → word.now ≢ decimal n) }
 {
-    match number_of(word, u64::from(u8::MAX)) {
+    match word_number(word, u64::from(u8::MAX)) {
         Some(number) => Some(number as u8),
         None => None,
     }
@@ -95,7 +95,7 @@ fn width_of(word: &str) -> Option<u16>
     ensures found { IfSome result (λ n. (n < 2 ^ 16) × (word.now ≡ decimal n)) }
     ensures none { IfNone result ((n : ℕ) → n < 2 ^ 16 → word.now ≢ decimal n) }
 {
-    match number_of(word, u64::from(u16::MAX)) {
+    match word_number(word, u64::from(u16::MAX)) {
         Some(number) => Some(number as u16),
         None => None,
     }
@@ -123,7 +123,7 @@ fn flip_of(words: &[String]) -> Option<Flip>
             let d = byte_of(d.as_str())?;
             let m = byte_of(m.as_str())?;
             let width = width_of(width.as_str())?;
-            let c = number_of(c.as_str(), u64::MAX)?;
+            let c = word_number(c.as_str(), u64::MAX)?;
             if !is_address(c, n) {
                 return None;
             }

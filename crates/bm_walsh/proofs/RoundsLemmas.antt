@@ -26,7 +26,7 @@ use Rattle.bm_walsh.proofs.PassListLemmas.{length_first}
 -- ---- what the rounds do
 
 -- the rotation as a map
-rotation_is : (n by : ℕ) (f : Affine) → IsRotationBy n by f → by ≤ n → IsRotation n by f
+pub rotation_is : (n by : ℕ) (f : Affine) → IsRotationBy n by f → by ≤ n → IsRotation n by f
 rotation_is n by f r l =
     subst (λ (k : ℕ). IsRotation k by f) r.size
     (is_rotation f by (subst (λ (k : ℕ). by ≤ k) (sym r.size) l) r.constant

@@ -4,6 +4,7 @@ use bm_memrack::{MemSink, SureSource};
 use bm_rack::{Rack, Sink, Source};
 use bm_top::{Status, bmmc_top};
 use std::alloc::{AllocError, Global};
+use test_helpers::{text_source, words_of};
 
 /// What a command said: its status, its output, and its line on standard error.
 #[derive(Drop)]
@@ -14,7 +15,7 @@ pub struct Answer {
     pub err: MemSink,
 }
 
-/// Runs the words of a line over these devices.
+// Runs the words of a line over these devices.
 fn run_over<R: Rack, J: Source, S: Source, K: Sink, E: Sink>(
     alloc: Global,
     line: &str,
@@ -24,10 +25,7 @@ fn run_over<R: Rack, J: Source, S: Source, K: Sink, E: Sink>(
     err: &mut E,
     rack: &mut R,
 ) -> Result<Status, AllocError> {
-    let mut words = Vec::new(alloc);
-    for word in line.split(' ') {
-        words.push(String::from_str(alloc, word)?)?;
-    }
+    let words = words_of(alloc, line)?;
     Ok(bmmc_top(alloc, &words, job, input, out, err, rack))
 }
 
@@ -52,11 +50,6 @@ pub fn said_over<R: Rack, J: Source, S: Source>(
     })
 }
 
-/// A job text as a source. Nothing where memory is refused.
-pub fn job_of(alloc: Global, text: &str) -> Option<SureSource> {
-    Some(SureSource::new(text.as_bytes().to_vec(alloc).ok()?))
-}
-
 /// What a line of words says over this rack, with this job text and input. Nothing where memory is
 /// refused.
 pub fn said<R: Rack>(
@@ -66,7 +59,7 @@ pub fn said<R: Rack>(
     input: &[u8],
     rack: &mut R,
 ) -> Option<Answer> {
-    let mut job = job_of(alloc, job)?;
+    let mut job = text_source(alloc, job)?;
     let mut input = SureSource::new(input.to_vec(alloc).ok()?);
     let out = MemSink::new(alloc, 512, 64, Vec::new(alloc)).ok()?;
     said_over(alloc, words, &mut job, &mut input, out, rack)

@@ -12,8 +12,8 @@ const ONE_DISK: &str = "n = 4\nb = 1\nd = 0\nm = 2\nwidth = 1";
 
 const ONE_LOAD: &str = "n = 4\nb = 1\nd = 1\nm = 4\nwidth = 1";
 
-/// The numbers of a shape, a map, how many transfers are made, and what the bytes 0 to 15 become. Of
-/// the transfers load and dump make 8 on two disks, and 16 on one.
+// The numbers of a shape, a map, how many transfers are made, and what the bytes 0 to 15 become. Of
+// the transfers load and dump make 8 on two disks, and 16 on one.
 const CASES: [(&str, &str, u64, &[u8]); 8] = [
     (TWO_DISKS, "kind = \"identity\"", 16, INPUT),
     (TWO_DISKS, "kind = \"bit-reversal\"", 24, REVERSED),

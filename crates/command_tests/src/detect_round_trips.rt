@@ -8,7 +8,7 @@ use test_helpers::records_of;
 
 const SHAPE: &str = "[shape]\nn = 4\nb = 1\nd = 1\nm = 3\nwidth = 8";
 
-/// The numbers 0 to 15 carried by a map, and then by the map that is detected of what came out.
+// The numbers 0 to 15 carried by a map, and then by the map that is detected of what came out.
 fn there_and_back(alloc: Global, map: &str) -> Option<Vec<u8>> {
     let counted = records_of(
         alloc,
@@ -31,8 +31,8 @@ fn there_and_back(alloc: Global, map: &str) -> Option<Vec<u8>> {
     back.out.taken().to_vec(alloc).ok()
 }
 
-/// Record x of what a map leaves is the address that goes to x, so carrying it by that list puts
-/// each number at its own address again.
+// Record x of what a map leaves is the address that goes to x, so carrying it by that list puts
+// each number at its own address again.
 #[test]
 fn each_kind_undone(rt: HostRuntime) -> Result<(), Fail> {
     let maps = [

@@ -8,13 +8,13 @@ use std::alloc::Global;
 use std::test::Fail;
 use test_helpers::records_of;
 
-/// Four numbers, two in memory, on one disk.
+// Four numbers, two in memory, on one disk.
 const FOUR: &str = "[shape]\nn = 2\nb = 0\nd = 0\nm = 1\nwidth = 8\n[map]\nkind = \"identity\"\n";
 
-/// Eight numbers on the same disk.
+// Eight numbers on the same disk.
 const EIGHT: &str = "[shape]\nn = 3\nb = 0\nd = 0\nm = 1\nwidth = 8\n[map]\nkind = \"walsh\"\n";
 
-/// What `detect` says of a list that is loaded on new disks.
+// What `detect` says of a list that is loaded on new disks.
 fn detected(alloc: Global, job: &str, list: &[u64]) -> Option<Answer> {
     let mut rack = SureRack::new(alloc);
     let input = records_of(alloc, list)?;
@@ -23,7 +23,7 @@ fn detected(alloc: Global, job: &str, list: &[u64]) -> Option<Answer> {
     said(alloc, "detect job", job, &[], &mut rack)
 }
 
-/// A list of four numbers, and the status, the output and the line on error that it is to have.
+// A list of four numbers, and the status, the output and the line on error that it is to have.
 #[derive(Clone, Copy)]
 struct Case {
     list: [u64; 4],
@@ -41,7 +41,7 @@ fn case_of(list: [u64; 4], code: u8, out: &'static str, line: &'static str) -> C
     }
 }
 
-/// Affine permutations, and lists that are none.
+// Affine permutations, and lists that are none.
 #[test]
 fn lists_of_four(rt: HostRuntime) -> Result<(), Fail> {
     let cases = [
@@ -79,7 +79,7 @@ fn lists_of_four(rt: HostRuntime) -> Result<(), Fail> {
     Ok(())
 }
 
-/// A number that is no address comes before a difference at a lower record.
+// A number that is no address comes before a difference at a lower record.
 #[test]
 fn range_before_difference(rt: HostRuntime) -> Result<(), Fail> {
     let answer = detected(rt.alloc(), EIGHT, &[0, 1, 2, 0, 4, 5, 6, 9]).ok_or("memory")?;
@@ -101,7 +101,7 @@ const TWO_DISKS: &str =
 const MORE_MEMORY: &str =
     "[shape]\nn = 2\nb = 0\nd = 0\nm = 2\nwidth = 8\n[map]\nkind = \"identity\"\n";
 
-/// The width is tested before the map, and the map before the disks.
+// The width is tested before the map, and the map before the disks.
 #[test]
 fn other_refusals(rt: HostRuntime) -> Result<(), Fail> {
     let steps = [

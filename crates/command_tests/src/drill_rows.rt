@@ -5,8 +5,8 @@ use crate::texts::DONE;
 use bm_memrack::SureRack;
 use std::test::Fail;
 
-/// Drills with no stop, and with a stop at the write of the first gate, which stays or is zeros.
-/// The digests were found apart from the code.
+// Drills with no stop, and with a stop at the write of the first gate, which stays or is zeros.
+// The digests were found apart from the code.
 fn drills() -> [Exchange; 5] {
     [
         step(
@@ -47,8 +47,8 @@ fn drills() -> [Exchange; 5] {
     ]
 }
 
-/// An input of more than 2^26 bytes is refused before the map is, and by no other command. The
-/// disks that are handed in are not touched.
+// An input of more than 2^26 bytes is refused before the map is, and by no other command. The
+// disks that are handed in are not touched.
 fn refusals() -> [Exchange; 5] {
     [
         step(
@@ -97,7 +97,7 @@ fn reports(rt: HostRuntime) -> Result<(), Fail> {
     Ok(())
 }
 
-/// 2^22 records of 16 bytes, the largest input of a drill.
+// 2^22 records of 16 bytes, the largest input of a drill.
 #[test]
 fn largest_drill(rt: HostRuntime) -> Result<(), Fail> {
     let steps = [step(

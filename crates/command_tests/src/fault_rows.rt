@@ -1,21 +1,22 @@
 //! Commands over devices that fail, and what the next command finds.
 
-use crate::calling::{job_of, said, said_over};
+use crate::calling::{said, said_over};
 use crate::steps::{
     Exchange, done, fed, first_wrong, loaded, refused, run_after_all, run_anew, step,
 };
-use crate::texts::{DONE, INPUT, MARKED_REVERSAL, RACK_FAULT, REVERSAL, REVERSED};
+use crate::texts::{DONE, INPUT, MARKED_REVERSAL, RACK_FAULT, REVERSED};
 use bm_memrack::{MemRack, MemSink, MemSource, SureSource, UntoldRack};
 use bm_rack::{Found, Rack, StopRack};
 use std::alloc::Global;
 use std::test::Fail;
+use test_helpers::{REVERSAL, text_source};
 
-/// A rack whose device call of this number fails.
+// A rack whose device call of this number fails.
 fn failing(alloc: Global, call: u64) -> Option<MemRack> {
     Some(MemRack::new(alloc, [call].to_vec(alloc).ok()?))
 }
 
-/// The first transfer of the second pass fails: the first pass stays done.
+// The first transfer of the second pass fails: the first pass stays done.
 fn second_pass() -> [Exchange; 7] {
     [
         done("new job", &[]),
@@ -28,7 +29,7 @@ fn second_pass() -> [Exchange; 7] {
     ]
 }
 
-/// A transfer of the first pass fails.
+// A transfer of the first pass fails.
 fn first_pass() -> [Exchange; 6] {
     [
         done("new job", &[]),
@@ -40,7 +41,7 @@ fn first_pass() -> [Exchange; 6] {
     ]
 }
 
-/// The first transfer of the second load fails, where the first one is counted.
+// The first transfer of the second load fails, where the first one is counted.
 fn second_load() -> [Exchange; 5] {
     [
         step("new job", MARKED_REVERSAL, 0, &[], DONE),
@@ -84,7 +85,7 @@ fn wanted(call: u64) -> (u8, u8) {
     }
 }
 
-/// Each device call of a `carry` fails in turn. The one after its last fails the attach of the run.
+// Each device call of a `carry` fails in turn. The one after its last fails the attach of the run.
 #[test]
 fn faults_of_a_carry(rt: HostRuntime) -> Result<(), Fail> {
     let after = [run_after_all(), done("dump job", REVERSED)];
@@ -107,7 +108,7 @@ fn faults_of_a_carry(rt: HostRuntime) -> Result<(), Fail> {
     Ok(())
 }
 
-/// The run is stopped after its attach and 24 calls: one gate is open whatever the restart leaves.
+// The run is stopped after its attach and 24 calls: one gate is open whatever the restart leaves.
 #[test]
 fn stop_of_a_run(rt: HostRuntime) -> Result<(), Fail> {
     let before = [
@@ -132,13 +133,13 @@ fn stop_of_a_run(rt: HostRuntime) -> Result<(), Fail> {
     Ok(())
 }
 
-/// A read of the input fails: nothing is loaded, and what was loaded before is not there any more.
+// A read of the input fails: nothing is loaded, and what was loaded before is not there any more.
 #[test]
 fn faults_of_an_input(rt: HostRuntime) -> Result<(), Fail> {
     for call in 1..=4 {
         let mut rack = MemRack::new(rt.alloc(), Vec::new(rt.alloc()));
         let carried = said(rt.alloc(), "carry job", REVERSAL, INPUT, &mut rack).ok_or("memory")?;
-        let mut job = job_of(rt.alloc(), REVERSAL).ok_or("memory")?;
+        let mut job = text_source(rt.alloc(), REVERSAL).ok_or("memory")?;
         let faults = [call].to_vec(rt.alloc())?;
         let mut input = MemSource::new(INPUT.to_vec(rt.alloc())?, 8, faults);
         let out = MemSink::new(rt.alloc(), 64, 64, Vec::new(rt.alloc())).map_err(|_| "memory")?;
@@ -153,13 +154,13 @@ fn faults_of_an_input(rt: HostRuntime) -> Result<(), Fail> {
     Ok(())
 }
 
-/// A write of the output fails: what was written before is the beginning of the records.
+// A write of the output fails: what was written before is the beginning of the records.
 #[test]
 fn faults_of_an_output(rt: HostRuntime) -> Result<(), Fail> {
     for call in 1..=5 {
         let mut rack = MemRack::new(rt.alloc(), Vec::new(rt.alloc()));
         let carried = said(rt.alloc(), "carry job", REVERSAL, INPUT, &mut rack).ok_or("memory")?;
-        let mut job = job_of(rt.alloc(), REVERSAL).ok_or("memory")?;
+        let mut job = text_source(rt.alloc(), REVERSAL).ok_or("memory")?;
         let mut input = SureSource::new(Vec::new(rt.alloc()));
         let faults = [call].to_vec(rt.alloc())?;
         let out = MemSink::new(rt.alloc(), 64, 4, faults).map_err(|_| "memory")?;
@@ -180,7 +181,7 @@ fn faults_of_an_output(rt: HostRuntime) -> Result<(), Fail> {
     Ok(())
 }
 
-/// A page that is damaged is told; the job is dropped and run anew from the input.
+// A page that is damaged is told; the job is dropped and run anew from the input.
 #[test]
 fn damaged_page(rt: HostRuntime) -> Result<(), Fail> {
     let mut rack = MemRack::new(rt.alloc(), Vec::new(rt.alloc()));
@@ -217,7 +218,7 @@ fn has_damaged<R: Rack>(rack: &mut R, page: u16) -> bool {
     rack.write_page(page, &bytes).is_ok() && rack.sync().is_ok()
 }
 
-/// A call that took room for all records would be refused memory here: they are 2^51 bytes.
+// A call that took room for all records would be refused memory here: they are 2^51 bytes.
 #[test]
 fn no_room_for_all_records(rt: HostRuntime) -> Result<(), Fail> {
     let large =

@@ -8,8 +8,8 @@ use bm_top::Status;
 use std::test::Fail;
 use test_helpers::{has_moved, pattern};
 
-/// A line of words, how many bytes of input there are, and what comes of it: the status, its code,
-/// how many bytes of output, and the line on standard error.
+// A line of words, how many bytes of input there are, and what comes of it: the status, its code,
+// how many bytes of output, and the line on standard error.
 const ROWS: [(&str, usize, Status, u8, usize, &str); 11] = [
     ("flip 4 1 1 3 1 15", 16, Status::Done, 0, 16, DONE),
     (
@@ -112,8 +112,8 @@ fn is_flipped(moved: &[u8], records: &[u8], n: u8, c: u64, width: u16) -> bool {
     n >= 1 && n <= 52 && has_moved(moved, records, &identity(n).a, c, width)
 }
 
-/// Shapes of every kind: one disk and many, blocks of one record, one load, wide records. Each
-/// source gives five bytes a read, and each sink takes seven a write.
+// Shapes of every kind: one disk and many, blocks of one record, one load, wide records. Each
+// source gives five bytes a read, and each sink takes seven a write.
 #[test]
 fn every_record_moves(rt: HostRuntime) -> Result<(), Fail> {
     let alloc = rt.alloc();

@@ -12,8 +12,8 @@ pub const SIXTEEN: &str = "n = 4\nb = 1\nd = 1\nm = 3\nwidth = 1";
 
 const GRAY: &str = "kind = \"gray\"";
 
-/// What `plan` says of the text of these parts: what stands before the tables of the shape and the
-/// map, these two, and what stands after them. Nothing where memory is refused.
+// What `plan` says of the text of these parts: what stands before the tables of the shape and the
+// map, these two, and what stands after them. Nothing where memory is refused.
 fn planned(alloc: Global, before: &str, shape: &str, map: &str, rest: &str) -> Option<Answer> {
     let text = format!(in alloc; "{before}\n[shape]\n{shape}\n[map]\n{map}\n{rest}\n").ok()?;
     said(
@@ -43,7 +43,7 @@ pub fn answer_of(
     ))
 }
 
-/// What `plan` says of a job source. Nothing where memory is refused.
+// What `plan` says of a job source. Nothing where memory is refused.
 fn planned_of<J: Source>(alloc: Global, job: &mut J) -> Option<Answer> {
     let mut input = SureSource::new(Vec::new(alloc));
     let out = MemSink::new(alloc, 512, 64, Vec::new(alloc)).ok()?;
@@ -57,7 +57,7 @@ fn planned_of<J: Source>(alloc: Global, job: &mut J) -> Option<Answer> {
     )
 }
 
-/// The plans of two large bit reversals and of a transform, whole.
+// The plans of two large bit reversals and of a transform, whole.
 #[test]
 fn whole_plans(rt: HostRuntime) -> Result<(), Fail> {
     let rows = [
@@ -92,7 +92,7 @@ fn whole_plans(rt: HostRuntime) -> Result<(), Fail> {
     Ok(())
 }
 
-/// A table of the shape, with the status and the line on error of its Gray code.
+// A table of the shape, with the status and the line on error of its Gray code.
 const SHAPES: [(&str, u8, &str); 11] = [
     ("n = 4\nn = 4", 4, "bmmc: job text\n"),
     (
@@ -147,7 +147,7 @@ const SHAPES: [(&str, u8, &str); 11] = [
     ),
 ];
 
-/// Each fault of the fields of the shape, and of its rules.
+// Each fault of the fields of the shape, and of its rules.
 #[test]
 fn answers_of_shapes(rt: HostRuntime) -> Result<(), Fail> {
     for (shape, code, line) in SHAPES {
@@ -157,8 +157,8 @@ fn answers_of_shapes(rt: HostRuntime) -> Result<(), Fail> {
     Ok(())
 }
 
-/// What stands before the shape, the shape, and what stands after the map, with the status and the
-/// line on error of the Gray code.
+// What stands before the shape, the shape, and what stands after the map, with the status and the
+// line on error of the Gray code.
 const TABLES: [(&str, &str, &str, u8, &str); 8] = [
     ("shape = 1\n[other]", "", "", 4, "bmmc: job text\n"),
     ("a = ", SIXTEEN, "", 4, "bmmc: job text\n"),
@@ -194,7 +194,7 @@ const TABLES: [(&str, &str, &str, u8, &str); 8] = [
     ),
 ];
 
-/// The other tables, each fault of their fields, and texts that are no TOML.
+// The other tables, each fault of their fields, and texts that are no TOML.
 #[test]
 fn answers_of_other_tables(rt: HostRuntime) -> Result<(), Fail> {
     for (before, shape, rest, code, line) in TABLES {
@@ -204,7 +204,7 @@ fn answers_of_other_tables(rt: HostRuntime) -> Result<(), Fail> {
     Ok(())
 }
 
-/// A text without its tables, one that is too long, and a source that fails at its first read.
+// A text without its tables, one that is too long, and a source that fails at its first read.
 #[test]
 fn other_job_sources(rt: HostRuntime) -> Result<(), Fail> {
     let alloc = rt.alloc();

@@ -1,26 +1,26 @@
 //! Commands over more records.
 
-use crate::calling::{Answer, job_of, said_over};
+use crate::calling::{Answer, said_over};
 use crate::texts::DONE;
 use bm_memrack::{MemSink, SureRack, SureSource};
 use bm_rack::Rack;
 use std::alloc::Global;
 use std::test::Fail;
-use test_helpers::{counted, is_transposed};
+use test_helpers::{counted, is_transposed, text_source};
 
-/// The most bytes that are carried here.
+// The most bytes that are carried here.
 const MOST: usize = 8 << 20;
 
 // What `carry` says of a job over this rack. Nothing where memory is refused.
 fn carried<R: Rack>(alloc: Global, job: &str, input: Vec<u8>, rack: &mut R) -> Option<Answer> {
-    let mut job = job_of(alloc, job)?;
+    let mut job = text_source(alloc, job)?;
     let mut input = SureSource::new(input);
     let out = MemSink::new(alloc, MOST, MOST, Vec::new(alloc)).ok()?;
     said_over(alloc, "carry job", &mut job, &mut input, out, rack)
 }
 
-/// A matrix of 1024 rows and columns on four disks, in 64 loads: two passes of 4096 transfers, and
-/// 4096 for load and dump.
+// A matrix of 1024 rows and columns on four disks, in 64 loads: two passes of 4096 transfers, and
+// 4096 for load and dump.
 #[test]
 fn transpose(rt: HostRuntime) -> Result<(), Fail> {
     let job =
@@ -67,7 +67,7 @@ fn is_in_gray_code(bytes: &[u8]) -> bool {
     bytes.len() == 256 << 12
 }
 
-/// Wide records in Gray code, in one pass of 128 transfers, and 128 for load and dump.
+// Wide records in Gray code, in one pass of 128 transfers, and 128 for load and dump.
 #[test]
 fn wide_records(rt: HostRuntime) -> Result<(), Fail> {
     let job = "[shape]\nn = 8\nb = 1\nd = 1\nm = 4\nwidth = 4096\n[map]\nkind = \"gray\"\n";

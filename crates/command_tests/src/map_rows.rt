@@ -4,7 +4,7 @@ use crate::job_rows::{SIXTEEN, answer_of};
 use crate::texts::DONE;
 use std::test::Fail;
 
-/// A table of the map, with the status and the line on error of a job by it.
+// A table of the map, with the status and the line on error of a job by it.
 const MAPS: [(&str, u8, &str); 23] = [
     ("kind = \"identity\"", 0, DONE),
     ("kind = \"reversal\"", 0, DONE),
@@ -67,7 +67,7 @@ const MAPS: [(&str, u8, &str); 23] = [
     ),
 ];
 
-/// A map of each kind, and each fault of its fields and of the map.
+// A map of each kind, and each fault of its fields and of the map.
 #[test]
 fn answers_of_maps(rt: HostRuntime) -> Result<(), Fail> {
     for (map, code, line) in MAPS {

@@ -3,15 +3,13 @@
 use crate::steps::{
     Exchange, done, fed, first_wrong, loaded, refused, run_after_all, run_anew, step,
 };
-use crate::texts::{
-    BYTES, DONE, FLIPPED, GRAY, GRAYED, INPUT, MARKED_REVERSAL, ONE_DISK, REVERSAL, REVERSED,
-    SMALL_MEMORY,
-};
+use crate::texts::{BYTES, DONE, FLIPPED, GRAYED, INPUT, MARKED_REVERSAL, REVERSED, SMALL_MEMORY};
 use bm_memrack::MemRack;
 use std::alloc::Global;
 use std::test::Fail;
+use test_helpers::{GRAY, ONE_DISK, REVERSAL};
 
-/// A job that is done is done again at no transfer; another job waits until it is dropped.
+// A job that is done is done again at no transfer; another job waits until it is dropped.
 fn jobs_in_a_row() -> [Exchange; 14] {
     [
         done("new job", &[]),
@@ -37,7 +35,7 @@ fn jobs_in_a_row() -> [Exchange; 14] {
     ]
 }
 
-/// An input of another size is refused, and nothing is loaded after it.
+// An input of another size is refused, and nothing is loaded after it.
 fn wrong_inputs() -> [Exchange; 10] {
     let short = BYTES.split_at(15).0;
     [
@@ -61,7 +59,7 @@ fn wrong_inputs() -> [Exchange; 10] {
     ]
 }
 
-/// What stands is told, whatever a job wants.
+// What stands is told, whatever a job wants.
 fn other_disks() -> [Exchange; 14] {
     [
         refused("run job", 12, "bmmc: no disks\n"),
@@ -88,7 +86,7 @@ fn other_disks() -> [Exchange; 14] {
     ]
 }
 
-/// A job with checkpoints is the same job, and a load gives up what was open.
+// A job with checkpoints is the same job, and a load gives up what was open.
 fn loaded_again() -> [Exchange; 6] {
     [
         fed("carry job", MARKED_REVERSAL, INPUT, 0, REVERSED, DONE),
@@ -100,7 +98,7 @@ fn loaded_again() -> [Exchange; 6] {
     ]
 }
 
-/// After a flip the disks stay, with its job done.
+// After a flip the disks stay, with its job done.
 fn after_a_flip() -> [Exchange; 5] {
     [
         fed("flip 4 1 1 3 1 15", "", INPUT, 0, FLIPPED, DONE),
@@ -131,7 +129,7 @@ const TOO_LARGE: &str =
 const SINGULAR: &str =
     "[shape]\nn = 4\nb = 1\nd = 1\nm = 3\nwidth = 1\n[map]\nkind = \"rows\"\nrows = [3, 3, 4, 8]\n";
 
-/// Words that are none, and jobs that are none: nothing is done.
+// Words that are none, and jobs that are none: nothing is done.
 fn no_commands() -> [Exchange; 12] {
     [
         refused("run", 2, "bmmc: usage\n"),

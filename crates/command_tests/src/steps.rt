@@ -1,9 +1,10 @@
 //! Rows of commands over one rack, and what each of them is to say.
 
 use crate::calling::said;
-use crate::texts::{DONE, INPUT, REVERSAL};
+use crate::texts::{DONE, INPUT};
 use bm_rack::Rack;
 use std::alloc::Global;
+use test_helpers::REVERSAL;
 
 /// A line of words, the text of its job and its input, and the status, the output and the line on
 /// standard error that it is to have.

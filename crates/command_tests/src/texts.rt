@@ -1,12 +1,5 @@
 //! Job texts, inputs, outputs and lines of worked examples.
 
-/// The bit reversal of sixteen records of a byte, eight in memory, on two disks in blocks of two.
-pub const REVERSAL: &str =
-    "[shape]\nn = 4\nb = 1\nd = 1\nm = 3\nwidth = 1\n[map]\nkind = \"bit-reversal\"\n";
-
-/// The Gray code on the same disks.
-pub const GRAY: &str = "[shape]\nn = 4\nb = 1\nd = 1\nm = 3\nwidth = 1\n[map]\nkind = \"gray\"\n";
-
 /// The bit reversal with progress made durable after each load.
 pub const MARKED_REVERSAL: &str =
     "[shape]\nn = 4\nb = 1\nd = 1\nm = 3\nwidth = 1\n[map]\nkind = \"bit-reversal\"\n[run]\ncheckpoint = 1\n";
@@ -14,10 +7,6 @@ pub const MARKED_REVERSAL: &str =
 /// The bit reversal with four records in memory, on disks of the same dims.
 pub const SMALL_MEMORY: &str =
     "[shape]\nn = 4\nb = 1\nd = 1\nm = 2\nwidth = 1\n[map]\nkind = \"bit-reversal\"\n";
-
-/// The bit reversal on one disk.
-pub const ONE_DISK: &str =
-    "[shape]\nn = 4\nb = 1\nd = 0\nm = 2\nwidth = 1\n[map]\nkind = \"bit-reversal\"\n";
 
 /// The bytes 0 to 16.
 pub const BYTES: [u8; 17] = [0, 1, 2, 3, 4, 5, 6, 7, 8, 9, 10, 11, 12, 13, 14, 15, 16];

@@ -9,15 +9,15 @@ use std::alloc::Global;
 use std::test::Fail;
 use test_helpers::records_of;
 
-/// Four numbers, two in memory, on one disk.
+// Four numbers, two in memory, on one disk.
 const FOUR: &str = "[shape]\nn = 2\nb = 0\nd = 0\nm = 1\nwidth = 8\n[map]\nkind = \"walsh\"\n";
 
-/// Sixteen numbers, eight in memory, on two disks.
+// Sixteen numbers, eight in memory, on two disks.
 const SIXTEEN: &str = "[shape]\nn = 4\nb = 1\nd = 1\nm = 3\nwidth = 8\n[map]\nkind = \"walsh\"\n";
 
 const NARROW: &str = "[shape]\nn = 2\nb = 0\nd = 0\nm = 1\nwidth = 4\n[map]\nkind = \"walsh\"\n";
 
-/// Whether a carry of these numbers makes those, in so many row calls.
+// Whether a carry of these numbers makes those, in so many row calls.
 fn carries(alloc: Global, job: &str, input: &[u64], out: &[u64], moves: u64) -> Option<bool> {
     let mut rack = SureRack::new(alloc);
     let input = records_of(alloc, input)?;
@@ -26,8 +26,8 @@ fn carries(alloc: Global, job: &str, input: &[u64], out: &[u64], moves: u64) -> 
     Some(answer.out.taken() == want.as_slice() && rack.rows() == moves)
 }
 
-/// Load and dump make 8 row calls beside those of the passes. The transform of a transform is the
-/// input, each number times N.
+// Load and dump make 8 row calls beside those of the passes. The transform of a transform is the
+// input, each number times N.
 #[test]
 fn transforms(rt: HostRuntime) -> Result<(), Fail> {
     let there = [10, 18446744073709551614, 18446744073709551612, 0];
@@ -44,7 +44,7 @@ fn transforms(rt: HostRuntime) -> Result<(), Fail> {
     Ok(())
 }
 
-/// In steps, with the width tested by each command that has a job.
+// In steps, with the width tested by each command that has a job.
 #[test]
 fn transform_in_steps(rt: HostRuntime) -> Result<(), Fail> {
     let mut rack = SureRack::new(rt.alloc());

@@ -19,12 +19,12 @@ use std::alloc::Global;
 use std::test::Fail;
 use test_helpers::has_disks;
 
-/// The load body of 16 records of one byte, on two disks in blocks of two, eight of them in a load.
+// The load body of 16 records of one byte, on two disks in blocks of two, eight of them in a load.
 const LOAD: [u8; 16] = [
     0x42, 0x4d, 0x4d, 0x43, 0x4c, 0x4f, 0x41, 0x44, 1, 0, 4, 1, 1, 3, 1, 0,
 ];
 
-/// The body of a permutation of four bits in two passes, and of a job with checkpoints.
+// The body of a permutation of four bits in two passes, and of a job with checkpoints.
 const WHOLE: [u8; 16] = [
     0x42, 0x4d, 0x4d, 0x43, 0x54, 0x41, 0x53, 0x4b, 1, 0, 1, 4, 2, 0, 0, 0,
 ];
@@ -33,18 +33,18 @@ const PARTS: [u8; 16] = [
     0x42, 0x4d, 0x4d, 0x43, 0x54, 0x41, 0x53, 0x4b, 2, 0, 1, 4, 2, 0, 0, 0,
 ];
 
-/// The body of pass 1.
+// The body of pass 1.
 const PASS: [u8; 16] = [
     0x42, 0x4d, 0x4d, 0x43, 0x50, 0x41, 0x53, 0x53, 1, 0, 0, 4, 1, 0, 0, 0,
 ];
 
-/// The columns of the bit reversal.
+// The columns of the bit reversal.
 const REVERSAL: [u64; 4] = [8, 4, 2, 1];
 
-/// The columns of a map that one pass can do.
+// The columns of a map that one pass can do.
 const ONE_PASS: [u64; 4] = [1, 10, 4, 8];
 
-/// The page with these bytes at a place.
+// The page with these bytes at a place.
 fn put(page: [u8; 512], place: usize, bytes: &[u8]) -> [u8; 512]
     requires { place + length bytes.now ≤ 512 }
 {
@@ -53,7 +53,7 @@ fn put(page: [u8; 512], place: usize, bytes: &[u8]) -> [u8; 512]
     page
 }
 
-/// The page of 16 bytes, the constant 0, these columns of 8 bytes each, and a last number.
+// The page of 16 bytes, the constant 0, these columns of 8 bytes each, and a last number.
 fn map_page(head: [u8; 16], cols: [u64; 4], last: u64) -> [u8; 512] {
     let [one, two, three, four] = cols;
     let page = put([0; 512], 0, &head);
@@ -64,7 +64,7 @@ fn map_page(head: [u8; 16], cols: [u64; 4], last: u64) -> [u8; 512] {
     put(page, 504, &last.to_le_bytes())
 }
 
-/// The page of the part body of a pass and a number of loads below 256.
+// The page of the part body of a pass and a number of loads below 256.
 fn part_page(pass: u8, loads: u8) -> [u8; 512] {
     let front = [
         0x42, 0x4d, 0x4d, 0x43, 0x50, 0x41, 0x52, 0x54, 2, 0, pass, 0, 0, 0, 0, 0, loads,
@@ -72,7 +72,7 @@ fn part_page(pass: u8, loads: u8) -> [u8; 512] {
     put([0; 512], 0, &front)
 }
 
-/// What is written on a page.
+// What is written on a page.
 #[derive(Clone, Copy, Debug, PartialEq, Eq)]
 enum Body {
     Zeros,
@@ -84,17 +84,17 @@ enum Body {
     Part { pass: u8, loads: u8 },
 }
 
-/// A job body.
+// A job body.
 fn job(cols: [u64; 4], passes: u8) -> Body {
     Body::Job { cols, passes }
 }
 
-/// A part body.
+// A part body.
 fn part(pass: u8, loads: u8) -> Body {
     Body::Part { pass, loads }
 }
 
-/// An open job with checkpoints, with so many passes done, and the counted slot.
+// An open job with checkpoints, with so many passes done, and the counted slot.
 fn at(done: u16, part: u64, slot: u8) -> Said {
     Said::Working {
         done,
@@ -104,7 +104,7 @@ fn at(done: u16, part: u64, slot: u8) -> Said {
     }
 }
 
-/// An open job without checkpoints, with so many passes done.
+// An open job without checkpoints, with so many passes done.
 fn done(done: u16) -> Said {
     Said::Working {
         done,
@@ -114,7 +114,7 @@ fn done(done: u16) -> Said {
     }
 }
 
-/// The bytes of a body.
+// The bytes of a body.
 fn bytes_of(body: Body) -> [u8; 512] {
     match body {
         Body::Zeros => [0; 512],
@@ -125,7 +125,7 @@ fn bytes_of(body: Body) -> [u8; 512] {
     }
 }
 
-/// The job body by the map, where its numbers are in range.
+// The job body by the map, where its numbers are in range.
 fn job_body(shape: &Shape, map: &Affine, passes: u16, every: u64) -> Option<[u8; 512]> {
     if !is_job(shape, map, passes, every) {
         return None;
@@ -133,7 +133,7 @@ fn job_body(shape: &Shape, map: &Affine, passes: u16, every: u64) -> Option<[u8;
     Some(encode_job(shape, &Job::Permute(*map), passes, every))
 }
 
-/// The first pass by the map and its body, where it has a form.
+// The first pass by the map and its body, where it has a form.
 fn pass_body(shape: &Shape, map: &Affine) -> Option<(PassForm, [u8; 512])> {
     if map.a.n != shape.n() {
         return None;
@@ -143,7 +143,7 @@ fn pass_body(shape: &Shape, map: &Affine) -> Option<(PassForm, [u8; 512])> {
     Some((pass, encode_pass(shape, &pass, 0)))
 }
 
-/// The part body, where its numbers are in range.
+// The part body, where its numbers are in range.
 fn part_body(shape: &Shape, pass: u16, loads: u64) -> Option<[u8; 512]> {
     if pass == 0 || pass > 254 || loads == 0 || loads >= shape.loads() {
         return None;
@@ -151,7 +151,7 @@ fn part_body(shape: &Shape, pass: u16, loads: u64) -> Option<[u8; 512]> {
     Some(encode_part(shape, pass, loads))
 }
 
-/// The load body, the job bodies and a pass body are these pages. None is with its last byte set.
+// The load body, the job bodies and a pass body are these pages. None is with its last byte set.
 #[test]
 fn bodies_byte_for_byte(rt: HostRuntime) -> Result<(), Fail> {
     let shape = Shape::new(4, 1, 1, 3, 1).ok().ok_or("shape")?;
@@ -186,7 +186,7 @@ fn bodies_byte_for_byte(rt: HostRuntime) -> Result<(), Fail> {
     Ok(())
 }
 
-/// The page with one byte changed.
+// The page with one byte changed.
 fn with_byte(page: [u8; 512], place: usize, byte: u8) -> [u8; 512] {
     let mut page = page;
     if let Some(old) = page.get_mut(place) {
@@ -195,7 +195,7 @@ fn with_byte(page: [u8; 512], place: usize, byte: u8) -> [u8; 512] {
     page
 }
 
-/// A load body with one byte changed to what it may not be: the version, b, the width, the zeros.
+// A load body with one byte changed to what it may not be: the version, b, the width, the zeros.
 #[test]
 fn pages_that_are_no_load_bodies(rt: HostRuntime) -> Result<(), Fail> {
     for (place, byte) in [(8, 2), (11, 3), (14, 0), (16, 1), (511, 1)] {
@@ -205,10 +205,10 @@ fn pages_that_are_no_load_bodies(rt: HostRuntime) -> Result<(), Fail> {
     Ok(())
 }
 
-/// A job body with one byte changed: the version, the kind, n, the passes, the zeros, the constant,
-/// a column beyond 2^n and one that is there twice, the number of loads.
-///
-/// Version 2 is for jobs with fewer loads than a pass has, so that its number is 1 for this shape.
+// A job body with one byte changed: the version, the kind, n, the passes, the zeros, the constant,
+// a column beyond 2^n and one that is there twice, the number of loads.
+//
+// Version 2 is for jobs with fewer loads than a pass has, so that its number is 1 for this shape.
 #[test]
 fn pages_that_are_no_job_bodies(rt: HostRuntime) -> Result<(), Fail> {
     let shape = Shape::new(4, 1, 1, 3, 1).ok().ok_or("shape")?;
@@ -241,8 +241,8 @@ fn pages_that_are_no_job_bodies(rt: HostRuntime) -> Result<(), Fail> {
     Ok(())
 }
 
-/// A pass body with one byte changed, or read as another pass: the version, butterflies at this width,
-/// n, the number, the zeros, a column of zeros, one that is there twice, and a map that is not MLD.
+// A pass body with one byte changed, or read as another pass: the version, butterflies at this width,
+// n, the number, the zeros, a column of zeros, one that is there twice, and a map that is not MLD.
 #[test]
 fn pages_that_are_no_pass_bodies(rt: HostRuntime) -> Result<(), Fail> {
     let shape = Shape::new(4, 1, 1, 3, 1).ok().ok_or("shape")?;
@@ -270,7 +270,7 @@ fn pages_that_are_no_pass_bodies(rt: HostRuntime) -> Result<(), Fail> {
     Ok(())
 }
 
-/// A part body with one byte changed: the version, the pass, the zeros, the loads.
+// A part body with one byte changed: the version, the pass, the zeros, the loads.
 #[test]
 fn pages_that_are_no_part_bodies(rt: HostRuntime) -> Result<(), Fail> {
     let shape = Shape::new(4, 1, 1, 3, 1).ok().ok_or("shape")?;
@@ -289,7 +289,7 @@ fn pages_that_are_no_part_bodies(rt: HostRuntime) -> Result<(), Fail> {
     Ok(())
 }
 
-/// Writes the pages, where none is beyond the last and no call fails, and reads what is said.
+// Writes the pages, where none is beyond the last and no call fails, and reads what is said.
 fn changed<R: Rack>(
     rack: &mut R,
     changes: [(u16, Body); 4],
@@ -304,8 +304,8 @@ fn changed<R: Rack>(
     Some(read_state(rack))
 }
 
-/// Makes the calls and the changes on a rack of the shape, whose job is the bit reversal. The answer
-/// is what is said, and what `want` is whole.
+// Makes the calls and the changes on a rack of the shape, whose job is the bit reversal. The answer
+// is what is said, and what `want` is whole.
 fn said_after(
     alloc: Global,
     shape: &Shape,
@@ -331,7 +331,7 @@ fn said_after(
     Some((found, want.of(shape, &map, plan.len())))
 }
 
-/// Two passes, both done, and then one page changed.
+// Two passes, both done, and then one page changed.
 #[test]
 fn one_page_of_a_done_job_changed(rt: HostRuntime) -> Result<(), Fail> {
     let shape = Shape::new(4, 1, 1, 3, 1).ok().ok_or("shape")?;
@@ -369,7 +369,7 @@ fn one_page_of_a_done_job_changed(rt: HostRuntime) -> Result<(), Fail> {
     Ok(())
 }
 
-/// The gate and the body of each slot.
+// The gate and the body of each slot.
 fn slots(gate: Body, body: Body, other_gate: Body, other_body: Body) -> [(u16, Body); 4] {
     [
         (513, gate),
@@ -379,7 +379,7 @@ fn slots(gate: Body, body: Body, other_gate: Body, other_body: Body) -> [(u16, B
     ]
 }
 
-/// The gate of pass 1, and this body in the first slot, which is open.
+// The gate of pass 1, and this body in the first slot, which is open.
 fn first_done(body: Body) -> [(u16, Body); 4] {
     [
         (5, Body::Gate),
@@ -389,9 +389,9 @@ fn first_done(body: Body) -> [(u16, Body); 4] {
     ]
 }
 
-/// The slots' pages changed: which slot is counted, and which body is wrong.
-///
-/// On one disk the job has three passes of four loads.
+// The slots' pages changed: which slot is counted, and which body is wrong.
+//
+// On one disk the job has three passes of four loads.
 #[test]
 fn slots_of_an_open_job(rt: HostRuntime) -> Result<(), Fail> {
     let shape = Shape::new(4, 1, 0, 2, 1).ok().ok_or("shape")?;

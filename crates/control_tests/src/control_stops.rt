@@ -11,29 +11,21 @@ use bm_gf2::Affine;
 use bm_memrack::MemRack;
 use bm_named::bit_reversal;
 use bm_rack::StopRack;
-use run_helpers::{Said, Step, has_made, have_made};
+use run_helpers::{PICKS, Said, Step, has_made, have_made};
 use std::alloc::Global;
 use std::test::Fail;
 use test_helpers::has_disks;
 
-/// What a stop leaves of each unit that is not durable: what stands, zeros, ones, or the first half.
-const PICKS: [u64; 4] = [
-    0,
-    0x5555_5555_5555_5555,
-    0xAAAA_AAAA_AAAA_AAAA,
-    0xFFFF_FFFF_FFFF_FFFF,
-];
-
-/// The state before the call.
+// The state before the call.
 const B: u8 = 0;
 
-/// The state between, where the call closes an open slot first.
+// The state between, where the call closes an open slot first.
 const M: u8 = 1;
 
-/// The state after the call.
+// The state after the call.
 const A: u8 = 2;
 
-/// A call, what is made before it, and the states that it goes through.
+// A call, what is made before it, and the states that it goes through.
 #[derive(Clone, Copy, Debug, PartialEq, Eq)]
 enum Case {
     /// On new disks.
@@ -54,8 +46,8 @@ enum Case {
     MarkOther,
 }
 
-/// The records are 16 of one byte, reversed by bits: on two disks two passes of two loads, on one
-/// disk three passes of four loads.
+// The records are 16 of one byte, reversed by bits: on two disks two passes of two loads, on one
+// disk three passes of four loads.
 fn is_on_one_disk(case: Case) -> bool {
     match case {
         Case::MarkClosed | Case::MarkCounted | Case::MarkOther => true,
@@ -63,7 +55,7 @@ fn is_on_one_disk(case: Case) -> bool {
     }
 }
 
-/// The calls before.
+// The calls before.
 fn steps_of(case: Case) -> [Step; 6] {
     let whole = Step::StartJob { every: 2 };
     let parts = Step::StartJob { every: 1 };
@@ -97,7 +89,7 @@ fn steps_of(case: Case) -> [Step; 6] {
     }
 }
 
-/// The call.
+// The call.
 fn step_of(case: Case) -> Step {
     match case {
         Case::OpenLoad => Step::OpenLoad,
@@ -123,7 +115,7 @@ fn step_of(case: Case) -> Step {
     }
 }
 
-/// An open job with so many passes done, and the counted slot.
+// An open job with so many passes done, and the counted slot.
 fn working(done: u16, every: u64, part: u64, slot: u8) -> Said {
     Said::Working {
         done,
@@ -133,7 +125,7 @@ fn working(done: u16, every: u64, part: u64, slot: u8) -> Said {
     }
 }
 
-/// The states before the call, between and after it.
+// The states before the call, between and after it.
 fn states_of(case: Case) -> (Said, Said, Said) {
     match case {
         Case::OpenLoad => (Said::Closed, Said::Closed, Said::Loaded),
@@ -167,8 +159,8 @@ fn states_of(case: Case) -> (Said, Said, Said) {
     }
 }
 
-/// Makes the calls before, then the call with a stop after so many of its device calls, and starts
-/// again: whether the call succeeded, and what is said then.
+// Makes the calls before, then the call with a stop after so many of its device calls, and starts
+// again: whether the call succeeded, and what is said then.
 fn after_stop<R: StopRack>(
     rack: &mut R,
     shape: &Shape,
@@ -190,7 +182,7 @@ fn after_stop<R: StopRack>(
     Some((made, read_state(rack)))
 }
 
-/// The same on new disks, and what is to be said in the state of this letter.
+// The same on new disks, and what is to be said in the state of this letter.
 fn stopped(
     alloc: Global,
     case: Case,
@@ -230,11 +222,11 @@ fn stopped(
     Some((found, said.of(&shape, &map, passes)))
 }
 
-/// For each call and each of its device calls k: the state that a stop after k of them leaves, by the
-/// four picks. The call succeeds where none of its device calls is stopped.
-///
-/// A page whose write or sync is stopped is torn or not durable: a gate is then open where what stands
-/// or its first half is left, and closed where zeros or ones are.
+// For each call and each of its device calls k: the state that a stop after k of them leaves, by the
+// four picks. The call succeeds where none of its device calls is stopped.
+//
+// A page whose write or sync is stopped is torn or not durable: a gate is then open where what stands
+// or its first half is left, and closed where zeros or ones are.
 #[test]
 fn stops_within_each_call(rt: HostRuntime) -> Result<(), Fail> {
     let rows: [(Case, u64, bool, [u8; 4]); 55] = [

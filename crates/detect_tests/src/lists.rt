@@ -15,7 +15,7 @@ use std::alloc::Global;
 use std::test::Fail;
 use test_helpers::has_disks;
 
-/// Writes a load of two small numbers.
+// Writes a load of two small numbers.
 fn has_written<R: Rack>(rack: &mut R, shape: &Shape, load: u64, one: u8, other: u8) -> bool
     requires { (R.view rack.old).attached ≡ Some (dims_of shape.now) }
     ensures { (R.view rack.new).attached ≡ Some (dims_of shape.now) }
@@ -27,7 +27,7 @@ fn has_written<R: Rack>(rack: &mut R, shape: &Shape, load: u64, one: u8, other: 
     write_load(rack, shape, Area::Input, load, &bytes).is_ok()
 }
 
-/// What is detected of a list on attached disks. Nothing where it could not be written.
+// What is detected of a list on attached disks. Nothing where it could not be written.
 fn detected<R: Rack>(
     alloc: Global,
     rack: &mut R,
@@ -47,7 +47,7 @@ fn detected<R: Rack>(
     Some(detect(rack, shape, &mut bufs))
 }
 
-/// The same on new disks.
+// The same on new disks.
 fn found(alloc: Global, list: [u8; 4]) -> Option<Result<Affine, DetectError>> {
     let shape = Shape::new(2, 0, 0, 1, 8).ok()?;
     if shape.width() != 8 {
@@ -60,7 +60,7 @@ fn found(alloc: Global, list: [u8; 4]) -> Option<Result<Affine, DetectError>> {
     detected(alloc, &mut rack, &shape, list)
 }
 
-/// What each list is, or why it is no affine permutation.
+// What each list is, or why it is no affine permutation.
 #[test]
 fn lists_of_addresses(rt: HostRuntime) -> Result<(), Fail> {
     let rows = [

@@ -15,7 +15,7 @@ use std::alloc::Global;
 use std::test::Fail;
 use test_helpers::has_disks;
 
-/// What the disks tell of two jobs: nothing loaded, loaded, one of them done, and dropped.
+// What the disks tell of two jobs: nothing loaded, loaded, one of them done, and dropped.
 #[derive(Clone, Copy, Debug, PartialEq, Eq)]
 struct Told {
     bare: Result<OpenJob, OpenError>,
@@ -26,7 +26,7 @@ struct Told {
     dropped: Result<OpenJob, OpenError>,
 }
 
-/// Loads the input, runs the bit reversal, and drops it, with a look at the jobs in between.
+// Loads the input, runs the bit reversal, and drops it, with a look at the jobs in between.
 fn looked_at<R: Rack>(alloc: Global, rack: &mut R, shape: &Shape) -> Option<Told>
     requires { (R.view rack.old).attached ≡ Some (dims_of shape.now) }
     ensures { (R.view rack.new).attached ≡ Some (dims_of shape.now) }
@@ -74,7 +74,7 @@ fn jobs_that_are_open(rt: HostRuntime) -> Result<(), Fail> {
     Ok(())
 }
 
-/// Each load is one piece. A write that fails ends the dump.
+// Each load is one piece. A write that fails ends the dump.
 #[test]
 fn areas_in_pieces(rt: HostRuntime) -> Result<(), Fail> {
     let shape = Shape::new(4, 1, 1, 3, 1).ok().ok_or("shape")?;
@@ -98,7 +98,7 @@ fn areas_in_pieces(rt: HostRuntime) -> Result<(), Fail> {
     Ok(())
 }
 
-/// What a load of these bytes over a loaded input answers, and then whether records are loaded.
+// What a load of these bytes over a loaded input answers, and then whether records are loaded.
 fn answers<R: Rack>(
     alloc: Global,
     rack: &mut R,
@@ -114,7 +114,7 @@ fn answers<R: Rack>(
     Some((answer, state))
 }
 
-/// After an input of another length no records are loaded.
+// After an input of another length no records are loaded.
 #[test]
 fn inputs_of_any_length(rt: HostRuntime) -> Result<(), Fail> {
     let shape = Shape::new(4, 1, 1, 3, 1).ok().ok_or("shape")?;

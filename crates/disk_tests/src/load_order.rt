@@ -53,7 +53,7 @@ fn over_a_job() -> [Call; 15] {
     ]
 }
 
-/// Gates that are open are closed first, the job's before the load's.
+// Gates that are open are closed first, the job's before the load's.
 #[test]
 fn calls_in_order(rt: HostRuntime) -> Result<(), Fail> {
     let shape = Shape::new(4, 1, 1, 3, 1).ok().ok_or("shape")?;

@@ -6,20 +6,20 @@ use bm_memrack::MemRack;
 use std::alloc::Global;
 use std::test::Fail;
 
-/// The SHA-256 of the reversed records, as it was found apart from the code.
+// The SHA-256 of the reversed records, as it was found apart from the code.
 const DIGEST: [u8; 32] = [
     0xb1, 0x21, 0x32, 0xd6, 0x70, 0x51, 0xae, 0xf3, 0x79, 0xf2, 0xa1, 0xf5, 0x2a, 0x14, 0xfd, 0xa8,
     0x84, 0x03, 0x07, 0x86, 0xf8, 0x85, 0xf0, 0xbe, 0x56, 0x68, 0xe1, 0xd3, 0x11, 0xff, 0x2d, 0xc0,
 ];
 
-/// What a drill tells on new disks, and the row calls.
+// What a drill tells on new disks, and the row calls.
 fn on_disks(alloc: Global, stops: Stops, every: u64) -> Option<(DrillReport, u64)> {
     let shape = Shape::new(4, 1, 1, 3, 8).ok()?;
     let mut rack = MemRack::new(alloc, Vec::new(alloc));
     reversed(alloc, &mut rack, &shape, 0, stops, every)
 }
 
-/// A report of two passes.
+// A report of two passes.
 fn report(restarts: u32, moves: u64) -> DrillReport {
     DrillReport {
         passes: 2,
@@ -30,7 +30,7 @@ fn report(restarts: u32, moves: u64) -> DrillReport {
     }
 }
 
-/// With no stop. Four row calls load the input and four read the output.
+// With no stop. Four row calls load the input and four read the output.
 #[test]
 fn drill_without_stops(rt: HostRuntime) -> Result<(), Fail> {
     for every in [1, 2] {
@@ -40,7 +40,7 @@ fn drill_without_stops(rt: HostRuntime) -> Result<(), Fail> {
     Ok(())
 }
 
-/// With a stop at the write of the first gate, which stays or is zeros.
+// With a stop at the write of the first gate, which stays or is zeros.
 #[test]
 fn drill_with_a_stop(rt: HostRuntime) -> Result<(), Fail> {
     for (pick, moves, rows) in [(0, 16, 24), (0x5555_5555_5555_5555, 24, 32)] {

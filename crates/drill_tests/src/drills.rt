@@ -5,11 +5,10 @@ ghost use Rattle.std.specs.Prelude.{◌≡◌, ◌*◌, ◌^◌, ◌<◌, ◌≤
 use bm_base::{DrillReport, Shape, Stops};
 use bm_bufs::Bufs;
 use bm_drill::{DrillSpec, drill};
-use bm_factor::factor;
 use bm_forms::Job;
 use bm_named::bit_reversal;
 use bm_rack::StopRack;
-use run_helpers::is_job;
+use run_helpers::plan_of;
 use std::alloc::Global;
 
 /// What a drill of the reversal tells, and the row calls that its rack counts after it. Nothing
@@ -30,16 +29,11 @@ pub fn reversed<R: StopRack>(
     requires rows { (R.view rack.old).moves < 2 ^ 63 }
     requires size { 2 ^ shape.now.n * shape.now.width ≤ 2 ^ 26 }
 {
+    if stops.list().len() > 64 {
+        return None;
+    }
     let map = bit_reversal(shape.n());
-    if map.a.n != shape.n() || stops.list().len() > 64 {
-        return None;
-    }
-    let Ok(plan) = factor(alloc, shape, &map) else {
-        return None;
-    };
-    if !is_job(shape, &map, plan.len(), every) {
-        return None;
-    }
+    let plan = plan_of(alloc, shape, &map, every)?;
     let mut bufs = Bufs::new(alloc, shape).ok()?;
     let spec = DrillSpec {
         shape: *shape,

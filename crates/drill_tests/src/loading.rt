@@ -8,7 +8,7 @@ use bm_control::open_load;
 use bm_rack::{Found, Rack};
 use bm_stripe::write_load;
 
-/// Writes the input, where the bytes are those of its loads and no call fails.
+// Writes the input, where the bytes are those of its loads and no call fails.
 fn has_written<R: Rack>(rack: &mut R, shape: &Shape, bytes: &[u8]) -> bool
     requires attached { (R.view rack.old).attached ≡ Some (dims_of shape.now) }
     ensures attached { (R.view rack.new).attached ≡ Some (dims_of shape.now) }

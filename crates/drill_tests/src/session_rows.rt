@@ -13,24 +13,15 @@ use bm_job::run_job;
 use bm_memrack::MemRack;
 use bm_named::bit_reversal;
 use bm_rack::StopRack;
-use run_helpers::{INPUT, REVERSED, holds, is_job};
+use run_helpers::{INPUT, PICKS, REVERSED, holds, is_job};
 use std::alloc::Global;
 use std::test::Fail;
 
-/// What a stop leaves of each unit that is not durable: what stands, zeros, ones, or the first
-/// half.
-const PICKS: [u64; 4] = [
-    0,
-    0x5555_5555_5555_5555,
-    0xAAAA_AAAA_AAAA_AAAA,
-    0xFFFF_FFFF_FFFF_FFFF,
-];
-
-/// What sessions tell, and whether the records are reversed and the input is as before.
+// What sessions tell, and whether the records are reversed and the input is as before.
 type Outcome = (SessionsReport, bool);
 
-/// Loads the records, runs the job once with a stop ahead where one is given and restarts the rack,
-/// and then runs sessions.
+// Loads the records, runs the job once with a stop ahead where one is given and restarts the rack,
+// and then runs sessions.
 fn sessions_of<R: StopRack>(
     alloc: Global,
     rack: &mut R,
@@ -72,7 +63,7 @@ fn sessions_of<R: StopRack>(
     Some((report, whole))
 }
 
-/// The same on new disks.
+// The same on new disks.
 fn on_disks(
     alloc: Global,
     before: Option<(Stop, u64)>,
@@ -85,7 +76,7 @@ fn on_disks(
     sessions_of(alloc, &mut rack, before, stops, every)
 }
 
-/// What is told where the job was done.
+// What is told where the job was done.
 fn done(restarts: u32, moves: u64) -> Option<Outcome> {
     Some((
         SessionsReport {
@@ -97,9 +88,9 @@ fn done(restarts: u32, moves: u64) -> Option<Outcome> {
     ))
 }
 
-/// A stop at each of the 36 device calls, with each pick; and one that is not reached.
-///
-/// A pass has eight row calls: what a restart costs is one pass at most.
+// A stop at each of the 36 device calls, with each pick; and one that is not reached.
+//
+// A pass has eight row calls: what a restart costs is one pass at most.
 #[test]
 fn one_stop_anywhere(rt: HostRuntime) -> Result<(), Fail> {
     for after in 0..36 {
@@ -123,8 +114,8 @@ fn one_stop_anywhere(rt: HostRuntime) -> Result<(), Fail> {
     Ok(())
 }
 
-/// Stops within the calls that show progress: the write of a gate that stays or is zeros, and the
-/// sync after a slot's gate.
+// Stops within the calls that show progress: the write of a gate that stays or is zeros, and the
+// sync after a slot's gate.
 #[test]
 fn stops_at_the_gates(rt: HostRuntime) -> Result<(), Fail> {
     let zeros = 0x5555_5555_5555_5555;
@@ -141,11 +132,11 @@ fn stops_at_the_gates(rt: HostRuntime) -> Result<(), Fail> {
     Ok(())
 }
 
-/// Three stops that are reached, each with its own pick, and one that is not.
-///
-/// The first is at the write of the gate of pass 1, which the restart leaves as zeros, so the
-/// second session moves the pass again. It stops at the sync after the gate, which stays. The third
-/// stops at its first call, and the fourth moves pass 2.
+// Three stops that are reached, each with its own pick, and one that is not.
+//
+// The first is at the write of the gate of pass 1, which the restart leaves as zeros, so the
+// second session moves the pass again. It stops at the sync after the gate, which stays. The third
+// stops at its first call, and the fourth moves pass 2.
 #[test]
 fn several_stops(rt: HostRuntime) -> Result<(), Fail> {
     let zeros = 0x5555_5555_5555_5555;
@@ -165,8 +156,8 @@ fn several_stops(rt: HostRuntime) -> Result<(), Fail> {
     Ok(())
 }
 
-/// A job that was begun with no progress within a pass goes on so, whatever the later call asks
-/// for.
+// A job that was begun with no progress within a pass goes on so, whatever the later call asks
+// for.
 #[test]
 fn stored_number_of_loads(rt: HostRuntime) -> Result<(), Fail> {
     let stop = Stop { after: 24, pick: 0 };

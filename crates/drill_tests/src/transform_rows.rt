@@ -15,8 +15,8 @@ use std::alloc::Global;
 use std::test::Fail;
 use test_helpers::{read_area, records_of};
 
-/// Loads the numbers and runs sessions of the transform: what they tell, and the area after four
-/// passes.
+// Loads the numbers and runs sessions of the transform: what they tell, and the area after four
+// passes.
 fn transformed<R: StopRack>(
     alloc: Global,
     rack: &mut R,
@@ -47,7 +47,7 @@ fn transformed<R: StopRack>(
     Some((report, bytes))
 }
 
-/// A stop at each device call, and one that is not reached.
+// A stop at each device call, and one that is not reached.
 #[test]
 fn transform_with_a_stop(rt: HostRuntime) -> Result<(), Fail> {
     let input = records_of(rt.alloc(), &[1, 2, 3, 4]).ok_or("memory")?;

@@ -23,7 +23,7 @@ fn names(rt: &HostRuntime) -> io::Result<usize> {
     Ok(count)
 }
 
-/// The folder is empty whatever a test, or one that was cut off, left in it or in its place.
+// The folder is empty whatever a test, or one that was cut off, left in it or in its place.
 #[test]
 fn a_folder_is_made_anew(rt: HostRuntime) -> Result<(), Fail> {
     let name = "a_folder_is_made_anew";

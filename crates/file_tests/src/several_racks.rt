@@ -12,7 +12,7 @@ fn length_of(rt: &HostRuntime, path: &str) -> Option<usize> {
     Some(fs::read(rt, path).ok()?.len())
 }
 
-/// A rack of a folder has its files there alone, and none where the folder is missing.
+// A rack of a folder has its files there alone, and none where the folder is missing.
 #[test]
 fn racks_in_other_folders(rt: HostRuntime) -> Result<(), Fail> {
     enter_empty_folder(&rt, "racks_in_other_folders")?;
@@ -29,7 +29,7 @@ fn racks_in_other_folders(rt: HostRuntime) -> Result<(), Fail> {
     Ok(())
 }
 
-/// Bays lie side by side in one folder, and beside its rack.
+// Bays lie side by side in one folder, and beside its rack.
 #[test]
 fn bays_of_one_folder(rt: HostRuntime) -> Result<(), Fail> {
     enter_empty_folder(&rt, "bays_of_one_folder")?;

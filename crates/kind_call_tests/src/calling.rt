@@ -4,7 +4,8 @@ use bm_kind_call::kind_top;
 use bm_memrack::{MemSink, SureSource};
 use bm_rack::{Rack, Source};
 use bm_top::Status;
-use std::alloc::{AllocError, Global};
+use std::alloc::Global;
+use test_helpers::{text_source, words_of};
 
 /// What the call said: its status, its output, and its line on standard error.
 #[derive(Drop)]
@@ -12,20 +13,6 @@ pub struct Answer {
     pub status: Status,
     pub out: MemSink,
     pub err: MemSink,
-}
-
-/// The words of a line.
-pub fn words_of(alloc: Global, line: &str) -> Result<Vec<String>, AllocError> {
-    let mut words = Vec::new(alloc);
-    for word in line.split(' ') {
-        words.push(String::from_str(alloc, word)?)?;
-    }
-    Ok(words)
-}
-
-/// A text as a source. Nothing where memory is refused.
-pub fn text_source(alloc: Global, text: &str) -> Option<SureSource> {
-    Some(SureSource::new(text.as_bytes().to_vec(alloc).ok()?))
 }
 
 /// What a line of words says over these devices. Nothing where memory is refused.
@@ -58,16 +45,6 @@ pub fn said<R: Rack>(
     let mut input = SureSource::new(input.to_vec(alloc).ok()?);
     let out = MemSink::new(alloc, room, 1 << 10, Vec::new(alloc)).ok()?;
     said_over(alloc, line, &mut job, &mut input, out, rack)
-}
-
-/// A text with this shape and these lines of its map.
-pub fn text_with(alloc: Global, shape: &str, map: &str) -> Option<String> {
-    let mut text = String::new(alloc);
-    text.push_str("[shape]\n").ok()?;
-    text.push_str(shape).ok()?;
-    text.push_str("\n[map]\n").ok()?;
-    text.push_str(map).ok()?;
-    Some(text)
 }
 
 /// Four numbers, two in memory, on one disk.

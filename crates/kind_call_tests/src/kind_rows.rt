@@ -1,6 +1,6 @@
 //! Four numbers in two loads: what each kind makes of them, and texts that are refused.
 
-use crate::calling::{FOUR, said, text_with};
+use crate::calling::{FOUR, said};
 use bm_base::FieldName;
 use bm_memrack::SureRack;
 use bm_named::MapFault;
@@ -8,7 +8,7 @@ use bm_rack::Rack;
 use bm_top::Status;
 use std::alloc::Global;
 use std::test::Fail;
-use test_helpers::records_of;
+use test_helpers::{records_of, text_with};
 
 // The lines of the map, four numbers, and what becomes of them.
 const ROWS: [(&str, [u64; 4], [u64; 4]); 7] = [

@@ -1,13 +1,13 @@
 //! Words, inputs and devices for which the call is not done, and what stands afterwards.
 
-use crate::calling::{FOUR, said, said_over, text_source, text_with, words_of};
+use crate::calling::{FOUR, said, said_over};
 use bm_kind_call::kind_job;
 use bm_memrack::{MemRack, MemSink, MemSource, SureRack, SureSource};
 use bm_rack::Rack;
 use bm_top::Status;
 use std::alloc::Global;
 use std::test::Fail;
-use test_helpers::records_of;
+use test_helpers::{records_of, text_source, text_with, words_of};
 
 const SUMS: &str = "kind = \"sums\"\nset = [0, 1]";
 

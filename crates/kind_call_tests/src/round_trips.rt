@@ -2,15 +2,15 @@
 
 ghost use Rattle.std.specs.Prelude.{◌≡◌, IfSome, length};
 
-use crate::calling::{said, text_source, words_of};
+use crate::calling::said;
 use bm_memrack::{MemSink, SureRack, SureSource};
 use bm_top::{Status, bmmc_top};
 use itoa::Buffer;
 use std::alloc::Global;
 use std::test::Fail;
-use test_helpers::{draw, records_of};
+use test_helpers::{draw, records_of, text_source, words_of};
 
-/// 4096 numbers, 32 in memory, on two disks in blocks of two.
+// 4096 numbers, 32 in memory, on two disks in blocks of two.
 const SHAPE: &str = "[shape]\nn = 12\nb = 1\nd = 1\nm = 5\nwidth = 8\n";
 
 const BYTES: usize = 8 << 12;

@@ -44,7 +44,7 @@ const ROWS: [(Name, u64, [u64; 4], [u64; 4]); 7] = [
     (Name::Sums, 0b01, [1, 2, 3, 4], [1, 3, 3, 7]),
 ];
 
-/// The rows, with the numbers in order and placed by maps that move them.
+// The rows, with the numbers in order and placed by maps that move them.
 #[test]
 fn rows_of_four_numbers(rt: HostRuntime) -> Result<(), Fail> {
     let alloc = rt.alloc();
@@ -87,7 +87,7 @@ const PAIRS: [(Name, Name); 3] = [
 
 const SETS: [u64; 5] = [0, 1, 0b1000_0000_0100, 0b0101_1010_0110, 0b1111_1111_1111];
 
-/// What one kernel makes, another makes undone.
+// What one kernel makes, another makes undone.
 #[test]
 fn kernels_are_undone(rt: HostRuntime) -> Result<(), Fail> {
     let alloc = rt.alloc();

@@ -15,7 +15,7 @@ pub enum Name {
     Xors,
 }
 
-/// The record at a place, as a number. Nothing where there is none.
+// The record at a place, as a number. Nothing where there is none.
 fn number(records: &[u8], place: u64) -> Option<u64> {
     let at = (place as usize).wrapping_mul(8);
     let bytes = records.get(at..at.wrapping_add(8))?;
@@ -26,7 +26,7 @@ fn number(records: &[u8], place: u64) -> Option<u64> {
     Some(u64::from_le_bytes(record))
 }
 
-/// Writes a number as the record at a place. Nothing where there is none.
+// Writes a number as the record at a place. Nothing where there is none.
 fn set_number(records: &mut [u8], place: u64, number: u64) -> Option<()> {
     let at = (place as usize).wrapping_mul(8);
     let bytes = records.get_mut(at..at.wrapping_add(8))?;

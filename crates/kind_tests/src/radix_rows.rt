@@ -68,7 +68,7 @@ const ORDERS: [(u8, u8, u8); 6] = [
     (3, 2, 0),
 ];
 
-/// Each order gives what the set gives.
+// Each order gives what the set gives.
 #[test]
 fn three_bits_in_each_order(rt: HostRuntime) -> Result<(), Fail> {
     let alloc = rt.alloc();

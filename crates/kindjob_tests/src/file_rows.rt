@@ -4,18 +4,8 @@ use bm_base::{FieldName, Shape};
 use bm_jobfile::JobError;
 use bm_kindjob::{KindFile, KindName, read_kind};
 use bm_named::MapFault;
-use std::alloc::Global;
 use std::test::Fail;
-
-// The text with these lines in its two tables.
-fn text_of(alloc: Global, shape: &str, map: &str) -> Option<String> {
-    let mut text = String::new(alloc);
-    text.push_str("[shape]\n").ok()?;
-    text.push_str(shape).ok()?;
-    text.push_str("\n[map]\n").ok()?;
-    text.push_str(map).ok()?;
-    Some(text)
-}
+use test_helpers::text_with;
 
 const SHAPE: &str = "n = 2\nb = 0\nd = 0\nm = 1\nwidth = 8";
 
@@ -32,12 +22,12 @@ const FILES: [(&str, KindName, u64); 5] = [
     ("kind = \"sums\"\nset = []", KindName::Sums, 0),
 ];
 
-/// What each text says.
+// What each text says.
 #[test]
 fn texts_say_sets(rt: HostRuntime) -> Result<(), Fail> {
     let shape = Shape::new(2, 0, 0, 1, 8).ok().ok_or("shape")?;
     for (map, kind, set) in FILES {
-        let text = text_of(rt.alloc(), SHAPE, map).ok_or("text")?;
+        let text = text_with(rt.alloc(), SHAPE, map).ok_or("text")?;
         let file = read_kind(rt.alloc(), text.as_bytes());
         assert!(rt; file == Ok(KindFile { shape, kind, set }), "{map}");
     }
@@ -68,11 +58,11 @@ const FAULTS: [(&str, &str, FieldName); 8] = [
     ),
 ];
 
-/// The first faulty field.
+// The first faulty field.
 #[test]
 fn faulty_fields(rt: HostRuntime) -> Result<(), Fail> {
     for (shape, map, which) in FAULTS {
-        let text = text_of(rt.alloc(), shape, map).ok_or("text")?;
+        let text = text_with(rt.alloc(), shape, map).ok_or("text")?;
         let file = read_kind(rt.alloc(), text.as_bytes());
         assert!(rt; file == Err(JobError::Field { which }), "{map}");
     }
@@ -113,23 +103,23 @@ const MAP_FAULTS: [(u16, &str, &str, MapFault); 5] = [
     ),
 ];
 
-/// The first fault of the map, beside the shape.
+// The first fault of the map, beside the shape.
 #[test]
 fn faulty_maps(rt: HostRuntime) -> Result<(), Fail> {
     for (width, lines, map, fault) in MAP_FAULTS {
         let shape = Shape::new(2, 0, 0, 1, width).ok().ok_or("shape")?;
-        let text = text_of(rt.alloc(), lines, map).ok_or("text")?;
+        let text = text_with(rt.alloc(), lines, map).ok_or("text")?;
         let file = read_kind(rt.alloc(), text.as_bytes());
         assert!(rt; file == Err(JobError::Map { shape, fault }), "{map}");
     }
     Ok(())
 }
 
-/// A rule of the shape is told before the width of the records.
+// A rule of the shape is told before the width of the records.
 #[test]
 fn rules_before_the_width(rt: HostRuntime) -> Result<(), Fail> {
     let lines = "n = 2\nb = 1\nd = 0\nm = 1\nwidth = 4";
-    let text = text_of(rt.alloc(), lines, "kind = \"sums\"\nset = [7]").ok_or("text")?;
+    let text = text_with(rt.alloc(), lines, "kind = \"sums\"\nset = [7]").ok_or("text")?;
     let file = read_kind(rt.alloc(), text.as_bytes());
     assert!(rt; file == Err(JobError::Shape { rule: 3 }), "rule");
     Ok(())

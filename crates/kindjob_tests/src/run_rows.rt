@@ -63,7 +63,7 @@ const ROWS: [(KindName, u64, [u64; 4], [u64; 4]); 5] = [
     (KindName::Sums, 0, [1, 2, 3, 4], [1, 2, 3, 4]),
 ];
 
-/// The rows: four passes of eight parallel transfers each.
+// The rows: four passes of eight parallel transfers each.
 #[test]
 fn runs_of_four_numbers(rt: HostRuntime) -> Result<(), Fail> {
     let alloc = rt.alloc();
@@ -86,7 +86,7 @@ fn runs_of_four_numbers(rt: HostRuntime) -> Result<(), Fail> {
     Ok(())
 }
 
-/// Records that are no numbers of 8 bytes have no plan.
+// Records that are no numbers of 8 bytes have no plan.
 #[test]
 fn other_widths_have_no_plan(rt: HostRuntime) -> Result<(), Fail> {
     let shape = Shape::new(2, 0, 0, 1, 4).ok().ok_or("shape")?;

@@ -1,11 +1,12 @@
 //! Calls over a mirror from a line of words.
 
-use bm_memrack::{MemRack, MemSink, SureSource};
+use bm_memrack::{MemSink, SureSource};
 use bm_mirror::Mirror;
 use bm_mirror_call::mirror_top;
 use bm_rack::{Rack, Sink, Source};
 use bm_top::Status;
-use std::alloc::{AllocError, Global};
+use std::alloc::Global;
+use test_helpers::{text_source, words_of};
 
 /// What a command said over two racks: its status, its output, its lines on standard error, and the
 /// racks.
@@ -16,20 +17,6 @@ pub struct Answer<L: Rack, G: Rack> {
     pub err: MemSink,
     pub left: L,
     pub right: G,
-}
-
-/// The words of a line.
-pub fn words_of(alloc: Global, line: &str) -> Result<Vec<String>, AllocError> {
-    let mut words = Vec::new(alloc);
-    for word in line.split(' ') {
-        words.push(String::from_str(alloc, word)?)?;
-    }
-    Ok(words)
-}
-
-/// A rack in memory whose device calls of these numbers fail.
-pub fn rack_of(alloc: Global, faults: &[u64]) -> Option<MemRack> {
-    Some(MemRack::new(alloc, faults.to_vec(alloc).ok()?))
 }
 
 // What these words say over these devices.
@@ -84,7 +71,7 @@ pub fn said<L: Rack + Drop, G: Rack + Drop>(
     left: L,
     right: G,
 ) -> Option<Answer<L, G>> {
-    let mut job = SureSource::new(job.as_bytes().to_vec(alloc).ok()?);
+    let mut job = text_source(alloc, job)?;
     let mut input = SureSource::new(input.to_vec(alloc).ok()?);
     let err = MemSink::new(alloc, 64, 7, Vec::new(alloc)).ok()?;
     said_over(alloc, line, &mut job, &mut input, err, left, right)

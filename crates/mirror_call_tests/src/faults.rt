@@ -1,12 +1,11 @@
 //! A call that fails on one side, and on both.
 
-use crate::calling::{rack_of, said};
-use crate::texts::{
-    DONE_BOTH, DONE_LEFT, DONE_RIGHT, FAULT_LEFT, FAULT_RIGHT, INPUT, REVERSAL, REVERSED,
-};
+use crate::calling::said;
+use crate::texts::{DONE_BOTH, DONE_LEFT, DONE_RIGHT, FAULT_LEFT, FAULT_RIGHT, INPUT, REVERSED};
 use bm_top::Status;
 use std::alloc::Global;
 use std::test::Fail;
+use test_helpers::{REVERSAL, rack_of};
 
 // Whether this call of a `carry` reads a row or a page. Of its 62 calls the first two make the disks
 // and attach them, 11 load, 36 run the job and 13 dump its records.
@@ -50,8 +49,8 @@ fn carries(alloc: Global, left: &[u64], right: &[u64], want: (Status, &str)) -> 
     Some(said.status == status && said.out.taken() == out && said.err.taken() == lines.as_bytes())
 }
 
-/// Each device call of the left side fails in turn. A read is asked of the right one then, and after
-/// a write or a sync it goes on alone. Left is the one that has to be made.
+// Each device call of the left side fails in turn. A read is asked of the right one then, and after
+// a write or a sync it goes on alone. Left is the one that has to be made.
 #[test]
 fn faults_of_the_left_side(rt: HostRuntime) -> Result<(), Fail> {
     for call in 1..=63 {
@@ -64,8 +63,8 @@ fn faults_of_the_left_side(rt: HostRuntime) -> Result<(), Fail> {
     Ok(())
 }
 
-/// Each of the 35 device calls of the right side, which is read by no call, fails in turn. Left goes
-/// on alone.
+// Each of the 35 device calls of the right side, which is read by no call, fails in turn. Left goes
+// on alone.
 #[test]
 fn faults_of_the_right_side(rt: HostRuntime) -> Result<(), Fail> {
     for call in 1..=36 {

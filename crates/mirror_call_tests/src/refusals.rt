@@ -1,12 +1,13 @@
 //! Words that are no command over a mirror, job sources that fail, and sinks that fail.
 
-use crate::calling::{rack_of, said, said_over};
-use crate::texts::{INPUT, REVERSAL};
+use crate::calling::{said, said_over};
+use crate::texts::INPUT;
 use bm_memrack::{MemSink, MemSource, SureRack, SureSource};
 use bm_mirror_call::mirror_job;
 use bm_top::Status;
 use std::alloc::Global;
 use std::test::Fail;
+use test_helpers::{REVERSAL, rack_of, text_source, words_of};
 
 const NO_WORDS: [&str; 8] = [
     "mirror",
@@ -42,7 +43,7 @@ fn words_of_no_command(rt: HostRuntime) -> Result<(), Fail> {
 
 // The job that a line names.
 fn is_named(alloc: Global, line: &str, name: Option<&str>) -> Option<bool> {
-    let words = crate::calling::words_of(alloc, line).ok()?;
+    let words = words_of(alloc, line).ok()?;
     Some(match (mirror_job(&words), name) {
         (Some(job), Some(name)) => job == name,
         (None, None) => true,
@@ -114,7 +115,7 @@ fn job_fault(alloc: Global, call: u64) -> Option<(Status, bool)> {
     Some((said.status, said.err.taken() == lines))
 }
 
-/// The text is read in three pieces, and once more to see its end.
+// The text is read in three pieces, and once more to see its end.
 #[test]
 fn job_sources_that_fail(rt: HostRuntime) -> Result<(), Fail> {
     for call in 1..=2 {
@@ -158,7 +159,7 @@ fn long_texts(rt: HostRuntime) -> Result<(), Fail> {
 
 // What is written of the lines where this write of them fails, four bytes at a time.
 fn cut(alloc: Global, call: u64, want: &[u8]) -> Option<bool> {
-    let mut job = SureSource::new(REVERSAL.as_bytes().to_vec(alloc).ok()?);
+    let mut job = text_source(alloc, REVERSAL)?;
     let mut input = SureSource::new(INPUT.to_vec(alloc).ok()?);
     let err = MemSink::new(alloc, 64, 4, [call].to_vec(alloc).ok()?).ok()?;
     let said = said_over(
@@ -173,7 +174,7 @@ fn cut(alloc: Global, call: u64, want: &[u8]) -> Option<bool> {
     Some(said.status == Status::Done && said.err.taken() == want)
 }
 
-/// The line of the sides is tried also where the first one fails.
+// The line of the sides is tried also where the first one fails.
 #[test]
 fn lines_that_are_cut(rt: HostRuntime) -> Result<(), Fail> {
     let rows = [

@@ -1,12 +1,13 @@
 //! Commands over a mirror one after another, and the one side alone after them.
 
-use crate::calling::{rack_of, said};
-use crate::texts::{DONE_BOTH, INPUT, REVERSAL, REVERSED};
+use crate::calling::said;
+use crate::texts::{DONE_BOTH, INPUT, REVERSED};
 use bm_memrack::{MemSink, SureSource};
 use bm_rack::Rack;
 use bm_top::{Status, bmmc_top};
 use std::alloc::Global;
 use std::test::Fail;
+use test_helpers::{REVERSAL, rack_of, text_source, words_of};
 
 /// What a command without a mirror says over one rack: its status, and whether this is its output.
 pub fn alone<R: Rack>(
@@ -17,8 +18,8 @@ pub fn alone<R: Rack>(
     rack: &mut R,
     want: &[u8],
 ) -> Option<(Status, bool)> {
-    let words = crate::calling::words_of(alloc, line).ok()?;
-    let mut job = SureSource::new(job.as_bytes().to_vec(alloc).ok()?);
+    let words = words_of(alloc, line).ok()?;
+    let mut job = text_source(alloc, job)?;
     let mut input = SureSource::new(input.to_vec(alloc).ok()?);
     let mut out = MemSink::new(alloc, 512, 64, Vec::new(alloc)).ok()?;
     let mut err = MemSink::new(alloc, 64, 64, Vec::new(alloc)).ok()?;
@@ -49,7 +50,7 @@ fn an_empty_side_is_filled(rt: HostRuntime) -> Result<(), Fail> {
     Ok(())
 }
 
-/// A command, its status, its output, and its lines.
+// A command, its status, its output, and its lines.
 #[derive(Clone, Copy)]
 struct Exchange {
     line: &'static str,
@@ -58,7 +59,7 @@ struct Exchange {
     err: &'static str,
 }
 
-/// One after another over the same two racks, in turn with either side first.
+// One after another over the same two racks, in turn with either side first.
 const EACH_COMMAND: [Exchange; 11] = [
     Exchange {
         line: "mirror left status job",

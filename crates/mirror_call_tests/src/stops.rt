@@ -1,14 +1,15 @@
 //! A side that stops, and commands that go on from the other.
 
-use crate::calling::{Answer, rack_of, said};
-use crate::texts::{DONE_BOTH, INPUT, REVERSAL, REVERSED};
+use crate::calling::{Answer, said};
+use crate::texts::{DONE_BOTH, INPUT, REVERSED};
 use bm_memrack::MemRack;
 use bm_rack::StopRack;
 use bm_top::Status;
 use std::alloc::Global;
 use std::test::Fail;
+use test_helpers::{REVERSAL, rack_of};
 
-/// What a stop leaves of what was not made durable: every other unit in its old form.
+// What a stop leaves of what was not made durable: every other unit in its old form.
 const TORN: u64 = 0x5555_5555_5555_5555;
 
 // What a `carry` says where each side stops after so many of its calls, and the racks after the
@@ -101,22 +102,22 @@ fn first_right(alloc: Global, pick: u64) -> Option<u64> {
     None
 }
 
-/// Left stops at each of the 62 calls of a `carry`, which right goes on with. A left side that can't
-/// be made ends it: the right one has disks, and nothing is loaded.
+// Left stops at each of the 62 calls of a `carry`, which right goes on with. A left side that can't
+// be made ends it: the right one has disks, and nothing is loaded.
 #[test]
 fn the_left_side_stops(rt: HostRuntime) -> Result<(), Fail> {
     assert_eq!(rt; first_left(rt.alloc(), 0), None);
     Ok(())
 }
 
-/// The same where the stop leaves other bytes of what was not made durable.
+// The same where the stop leaves other bytes of what was not made durable.
 #[test]
 fn the_left_side_stops_and_is_torn(rt: HostRuntime) -> Result<(), Fail> {
     assert_eq!(rt; first_left(rt.alloc(), TORN), None);
     Ok(())
 }
 
-/// Right stops at each of its 35 calls.
+// Right stops at each of its 35 calls.
 #[test]
 fn the_right_side_stops(rt: HostRuntime) -> Result<(), Fail> {
     assert_eq!(rt; first_right(rt.alloc(), 0), None);
@@ -152,7 +153,7 @@ fn both_stop(alloc: Global, run: &str, after: u64, pick: u64) -> Option<(Status,
     Some((carried.status, ran.status))
 }
 
-/// Both sides stop at once, as where the program is killed: either one goes on from there.
+// Both sides stop at once, as where the program is killed: either one goes on from there.
 #[test]
 fn both_sides_stop(rt: HostRuntime) -> Result<(), Fail> {
     for after in 0..=61 {

@@ -9,7 +9,7 @@ use bm_rack::Rack;
 use std::alloc::Global;
 use std::test::Fail;
 
-/// A call of an attached rack.
+// A call of an attached rack.
 #[derive(Clone, Copy, Debug, PartialEq, Eq)]
 enum Kind {
     Attach,
@@ -20,7 +20,7 @@ enum Kind {
     Sync,
 }
 
-/// Whether the call succeeds.
+// Whether the call succeeds.
 fn does<R: Rack>(rack: &mut R, kind: Kind) -> bool
     requires { (R.view rack.old).attached ≡ Some SMALL }
 {
@@ -34,7 +34,7 @@ fn does<R: Rack>(rack: &mut R, kind: Kind) -> bool
     }
 }
 
-/// What a mirror made of a call, where each side made two calls before: create and attach.
+// What a mirror made of a call, where each side made two calls before: create and attach.
 #[derive(Clone, Copy, Debug, PartialEq, Eq)]
 struct Outcome {
     done: bool,
@@ -70,21 +70,21 @@ const RIGHT_FELL: Outcome = Outcome {
     right: false,
 };
 
-/// The last side stays in, and left was asked first.
+// The last side stays in, and left was asked first.
 const BOTH_FAILED: Outcome = Outcome {
     done: false,
     left: false,
     right: true,
 };
 
-/// A read takes no side out.
+// A read takes no side out.
 const NOT_READ: Outcome = Outcome {
     done: false,
     left: true,
     right: true,
 };
 
-/// No fault, one on left, one on right, one on each.
+// No fault, one on left, one on right, one on each.
 fn outcomes(alloc: Global, kind: Kind) -> Option<[Outcome; 4]> {
     Some([
         outcome_of(alloc, kind, &[], &[])?,
@@ -104,8 +104,8 @@ fn calls_that_change(rt: HostRuntime) -> Result<(), Fail> {
     Ok(())
 }
 
-/// Left alone is asked, but where it fails. So a fault of the third call of right is not met where
-/// left reads.
+// Left alone is asked, but where it fails. So a fault of the third call of right is not met where
+// left reads.
 #[test]
 fn calls_that_read(rt: HostRuntime) -> Result<(), Fail> {
     for kind in [Kind::ReadRow, Kind::ReadPage] {
@@ -117,7 +117,7 @@ fn calls_that_read(rt: HostRuntime) -> Result<(), Fail> {
     Ok(())
 }
 
-/// Writes a row, a page and syncs, three times over, of which each side fails once.
+// Writes a row, a page and syncs, three times over, of which each side fails once.
 fn worn(alloc: Global) -> Option<([Option<u8>; 5], [Option<[Option<u8>; 5]>; 2])> {
     let mut mirror = mirror_of(alloc, &[6], &[])?;
     if !is_made(&mut mirror) {
@@ -136,7 +136,7 @@ fn worn(alloc: Global) -> Option<([Option<u8>; 5], [Option<[Option<u8>; 5]>; 2])
     Some((seen, [marks_alone(left), marks_alone(right)]))
 }
 
-/// The fourth write fails on left, which keeps the half of it and gets no later one.
+// The fourth write fails on left, which keeps the half of it and gets no later one.
 #[test]
 fn a_side_that_fell_is_not_written(rt: HostRuntime) -> Result<(), Fail> {
     let whole = [Some(1), Some(3), Some(4), Some(2), Some(5)];

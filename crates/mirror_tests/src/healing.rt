@@ -1,15 +1,16 @@
 //! Sides that are taken in again.
 
 use crate::marks::{
-    MARKS, OTHER, heal, is_made, is_ready, marks_alone, put_marks, put_row, rack_of,
+    BOTH, LEFT, MARKS, OTHER, ZEROS, heal, is_made, is_ready, marks_alone, put_marks, put_row,
 };
 use bm_memrack::{MemRack, UntoldRack};
 use bm_mirror::{HealError, Healed, Mirror, Side, Sides};
 use bm_rack::{AttachError, Found, Rack, StopRack};
 use std::alloc::Global;
 use std::test::Fail;
+use test_helpers::rack_of;
 
-/// What a heal came to, which sides are in, how many rows the mirror counts, and what each holds.
+// What a heal came to, which sides are in, how many rows the mirror counts, and what each holds.
 #[derive(Clone, Copy, Debug, PartialEq, Eq)]
 struct Mended {
     answer: Result<Healed, HealError>,
@@ -18,8 +19,8 @@ struct Mended {
     held: [Option<[Option<u8>; 5]>; 2],
 }
 
-/// Heals a mirror over this right side, whose left one holds the marks. The left side's calls of these
-/// numbers fail: 8 is the attach of the mirror, 9 the sync, and 10 the first read.
+// Heals a mirror over this right side, whose left one holds the marks. The left side's calls of these
+// numbers fail: 8 is the attach of the mirror, 9 the sync, and 10 the first read.
 fn mend(alloc: Global, left: &[u64], right: MemRack) -> Option<Mended> {
     let mut left = rack_of(alloc, left)?;
     if !is_made(&mut left) || !put_marks(&mut left) {
@@ -41,28 +42,16 @@ fn mend(alloc: Global, left: &[u64], right: MemRack) -> Option<Mended> {
     })
 }
 
-const BOTH: Sides = Sides {
-    left: true,
-    right: true,
-};
-
-const LEFT: Sides = Sides {
-    left: true,
-    right: false,
-};
-
-const ZEROS: [Option<u8>; 5] = [Some(0), Some(0), Some(0), Some(0), Some(0)];
-
-/// All but the last page.
+// All but the last page.
 const ALL_BUT_ONE: [Option<u8>; 5] = [Some(10), Some(11), Some(12), Some(20), Some(0)];
 
-/// A half of the last page.
+// A half of the last page.
 const HALF_A_PAGE: [Option<u8>; 5] = [Some(10), Some(11), Some(12), Some(20), None];
 
-/// A half of each block of the last row.
+// A half of each block of the last row.
 const HALF_A_ROW: [Option<u8>; 5] = [Some(10), Some(11), None, Some(0), Some(0)];
 
-/// What a heal leaves that answers so.
+// What a heal leaves that answers so.
 fn left_with(answer: Result<Healed, HealError>, right: Option<[Option<u8>; 5]>) -> Option<Mended> {
     let level = answer == Ok(Healed::Level);
     Some(Mended {
@@ -73,7 +62,7 @@ fn left_with(answer: Result<Healed, HealError>, right: Option<[Option<u8>; 5]>) 
     })
 }
 
-/// An empty side, one that is older, and one of other sizes.
+// An empty side, one that is older, and one of other sizes.
 #[test]
 fn sides_of_each_kind(rt: HostRuntime) -> Result<(), Fail> {
     let a = rt.alloc();
@@ -98,8 +87,8 @@ fn sides_of_each_kind(rt: HostRuntime) -> Result<(), Fail> {
     Ok(())
 }
 
-/// An empty right side whose calls fail: attach, create, the second attach, the last row, the last
-/// page and the sync.
+// An empty right side whose calls fail: attach, create, the second attach, the last row, the last
+// page and the sync.
 #[test]
 fn faults_of_the_side_that_is_out(rt: HostRuntime) -> Result<(), Fail> {
     let held = [
@@ -120,7 +109,7 @@ fn faults_of_the_side_that_is_out(rt: HostRuntime) -> Result<(), Fail> {
     Ok(())
 }
 
-/// The sync of the left side, its first row, and its last page.
+// The sync of the left side, its first row, and its last page.
 #[test]
 fn faults_of_the_side_that_is_in(rt: HostRuntime) -> Result<(), Fail> {
     let held = [(9, None), (10, Some(ZEROS)), (528, Some(ALL_BUT_ONE))];
@@ -134,7 +123,7 @@ fn faults_of_the_side_that_is_in(rt: HostRuntime) -> Result<(), Fail> {
     Ok(())
 }
 
-/// What stands on both sides after a stop of each, where left fell before.
+// What stands on both sides after a stop of each, where left fell before.
 fn stopped(alloc: Global) -> Option<[Option<[Option<u8>; 5]>; 2]> {
     let mut left = rack_of(alloc, &[])?;
     let mut right = rack_of(alloc, &[])?;
@@ -163,7 +152,7 @@ fn stopped(alloc: Global) -> Option<[Option<[Option<u8>; 5]>; 2]> {
     Some([marks_alone(left), marks_alone(right)])
 }
 
-/// The stops lose what was not made durable. Left has the first row alone, right the second too.
+// The stops lose what was not made durable. Left has the first row alone, right the second too.
 #[test]
 fn a_stop_of_both(rt: HostRuntime) -> Result<(), Fail> {
     let kept = Some([Some(1), Some(3), Some(0), Some(0), Some(0)]);
@@ -171,8 +160,8 @@ fn a_stop_of_both(rt: HostRuntime) -> Result<(), Fail> {
     Ok(())
 }
 
-/// Over a rack that tells nothing and answers every attach as ready: what a heal answers, then an
-/// attach with other sizes, and which sides are in.
+// Over a rack that tells nothing and answers every attach as ready: what a heal answers, then an
+// attach with other sizes, and which sides are in.
 fn untold<L: Rack, G: Rack>(
     mirror: &mut Mirror<L, G>,
 ) -> Option<(Result<Healed, HealError>, Result<Found, AttachError>, Sides)> {
@@ -184,7 +173,7 @@ fn untold<L: Rack, G: Rack>(
     Some((healed, found, mirror.sides()))
 }
 
-/// The answer is that of left. Right goes out where it does not follow.
+// The answer is that of left. Right goes out where it does not follow.
 #[test]
 fn a_rack_that_tells_nothing(rt: HostRuntime) -> Result<(), Fail> {
     let level = Ok(Healed::Level);

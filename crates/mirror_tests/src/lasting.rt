@@ -5,7 +5,7 @@ ghost use Rattle.std.specs.Prelude.{◌≡◌, ◌⊎◌, IsTrue, IsFalse, Some}
 ghost use Rattle.bm_base.specs.Count.{Rose};
 
 use crate::marks::{
-    OTHER, SMALL, heal, is_made, is_ready, marks_alone, mirror_of, put_row, rack_of,
+    BOTH, LEFT, OTHER, RIGHT, SMALL, heal, is_made, is_ready, marks_alone, mirror_of, put_row,
 };
 use crate::noted::{Kind, Note, Noted, Notes};
 use crate::refused::Refused;
@@ -14,24 +14,10 @@ use bm_mirror::{HealError, Healed, Mirror, Side, Sides};
 use bm_rack::{CreateError, Rack};
 use std::cell::RefCell;
 use std::test::Fail;
+use test_helpers::rack_of;
 
-const BOTH: Sides = Sides {
-    left: true,
-    right: true,
-};
-
-const LEFT: Sides = Sides {
-    left: true,
-    right: false,
-};
-
-const RIGHT: Sides = Sides {
-    left: false,
-    right: true,
-};
-
-/// The left side is made last, and finds no memory: the right one is made then, and out. No create is
-/// begun after that.
+// The left side is made last, and finds no memory: the right one is made then, and out. No create is
+// begun after that.
 #[test]
 fn a_create_that_found_no_memory(rt: HostRuntime) -> Result<(), Fail> {
     let notes: Notes = RefCell::new(Vec::new(rt.alloc()));
@@ -65,7 +51,7 @@ fn a_create_that_found_no_memory(rt: HostRuntime) -> Result<(), Fail> {
     Ok(())
 }
 
-/// Where the side that was out found no memory, nothing was made, and a later create is begun.
+// Where the side that was out found no memory, nothing was made, and a later create is begun.
 #[test]
 fn a_create_that_made_nothing(rt: HostRuntime) -> Result<(), Fail> {
     let notes: Notes = RefCell::new(Vec::new(rt.alloc()));
@@ -89,7 +75,7 @@ fn a_create_that_made_nothing(rt: HostRuntime) -> Result<(), Fail> {
     Ok(())
 }
 
-/// Two sides that are in are not asked whether something stands.
+// Two sides that are in are not asked whether something stands.
 #[test]
 fn a_create_of_what_stands(rt: HostRuntime) -> Result<(), Fail> {
     let mut mirror = mirror_of(rt.alloc(), &[2], &[2]).ok_or("memory")?;
@@ -99,7 +85,7 @@ fn a_create_of_what_stands(rt: HostRuntime) -> Result<(), Fail> {
     Ok(())
 }
 
-/// A right side that lapsed stands as before, and a heal takes it in.
+// A right side that lapsed stands as before, and a heal takes it in.
 #[test]
 fn a_side_that_lapsed(rt: HostRuntime) -> Result<(), Fail> {
     let memory = rack_of(rt.alloc(), &[]).ok_or("memory")?;
@@ -108,8 +94,8 @@ fn a_side_that_lapsed(rt: HostRuntime) -> Result<(), Fail> {
     Ok(())
 }
 
-/// Which sides are in after a heal, after an attach that right does not follow, and after a second
-/// heal.
+// Which sides are in after a heal, after an attach that right does not follow, and after a second
+// heal.
 fn lapse<L: Rack, G: Rack>(mirror: &mut Mirror<L, G>) -> Option<[Sides; 3]> {
     if !is_ready(mirror) {
         return None;
@@ -125,8 +111,8 @@ fn lapse<L: Rack, G: Rack>(mirror: &mut Mirror<L, G>) -> Option<[Sides; 3]> {
     Some([level, lapsed, mirror.sides()])
 }
 
-/// A heal and two writes. By what each call keeps, a caller sees that a left side fell that was in
-/// while no call had failed and is out then, and that a side stays level.
+// A heal and two writes. By what each call keeps, a caller sees that a left side fell that was in
+// while no call had failed and is out then, and that a side stays level.
 fn worn_out<L: Rack, G: Rack>(mirror: &mut Mirror<L, G>) -> Result<Healed, HealError>
     requires { mirror.old.attached ≡ Some SMALL }
     ensures fell { mirror.old.faults ≡ 0 → IsTrue mirror.old.sides.left
@@ -140,7 +126,7 @@ fn worn_out<L: Rack, G: Rack>(mirror: &mut Mirror<L, G>) -> Result<Healed, HealE
     healed
 }
 
-/// Left fails at its second write: its count rose, and right is in.
+// Left fails at its second write: its count rose, and right is in.
 #[test]
 fn a_side_that_fell(rt: HostRuntime) -> Result<(), Fail> {
     let mut mirror = mirror_of(rt.alloc(), &[4], &[]).ok_or("memory")?;

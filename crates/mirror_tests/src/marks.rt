@@ -5,9 +5,10 @@ ghost use Rattle.bm_rack.specs.Frames.{Keeps};
 
 use bm_base::{Dims, PAGE_BYTES};
 use bm_memrack::MemRack;
-use bm_mirror::{HealError, Healed, Mirror, Side};
+use bm_mirror::{HealError, Healed, Mirror, Side, Sides};
 use bm_rack::{Found, Rack};
 use std::alloc::Global;
+use test_helpers::rack_of;
 
 /// The sizes of these racks.
 pub const SMALL: Dims = Dims {
@@ -23,12 +24,23 @@ pub const OTHER: Dims = Dims {
     block: 4,
 };
 
-/// A rack in memory whose calls of these numbers fail.
-pub fn rack_of(alloc: Global, faults: &[u64]) -> Option<MemRack> {
-    let mut list = Vec::new(alloc);
-    list.extend_from_slice(faults).ok()?;
-    Some(MemRack::new(alloc, list))
-}
+/// Both sides are in.
+pub const BOTH: Sides = Sides {
+    left: true,
+    right: true,
+};
+
+/// The left side alone is in.
+pub const LEFT: Sides = Sides {
+    left: true,
+    right: false,
+};
+
+/// The right side alone is in.
+pub const RIGHT: Sides = Sides {
+    left: false,
+    right: true,
+};
 
 /// Whether the rack is ready.
 pub fn is_ready<R: Rack>(rack: &mut R) -> bool
@@ -127,6 +139,9 @@ pub fn put_marks<R: Rack>(rack: &mut R) -> bool
 
 /// The marks that `put_marks` writes.
 pub const MARKS: [Option<u8>; 5] = [Some(10), Some(11), Some(12), Some(20), Some(25)];
+
+/// The marks of a rack on which nothing was written.
+pub const ZEROS: [Option<u8>; 5] = [Some(0), Some(0), Some(0), Some(0), Some(0)];
 
 /// The marks of a rack, which is attached first.
 pub fn marks_alone<R: Rack>(mut rack: R) -> Option<[Option<u8>; 5]>

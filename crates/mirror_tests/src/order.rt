@@ -2,13 +2,14 @@
 
 ghost use Rattle.std.specs.Prelude.{◌≡◌, IsTrue, Some};
 
-use crate::marks::{SMALL, heal, is_made, put_page, put_row, rack_of};
+use crate::marks::{SMALL, heal, is_made, put_page, put_row};
 use crate::noted::{Kind, Note, Noted, Notes};
 use bm_base::PAGE_BYTES;
 use bm_mirror::{Healed, Mirror, Side};
 use bm_rack::Rack;
 use std::cell::RefCell;
 use std::test::Fail;
+use test_helpers::rack_of;
 
 const fn left(kind: Kind) -> Note {
     Note {
@@ -24,7 +25,7 @@ const fn right(kind: Kind) -> Note {
     }
 }
 
-/// Every call once.
+// Every call once.
 fn asks_each<R: Rack>(rack: &mut R) -> bool {
     if !is_made(rack) {
         return false;
@@ -37,7 +38,7 @@ fn asks_each<R: Rack>(rack: &mut R) -> bool {
     row && page && synced && read && seen
 }
 
-/// The side that is out is made first. Else left is asked first, and right is not asked to read.
+// The side that is out is made first. Else left is asked first, and right is not asked to read.
 #[test]
 fn both_sides_in_order(rt: HostRuntime) -> Result<(), Fail> {
     let notes: Notes = RefCell::new(Vec::new(rt.alloc()));
@@ -80,7 +81,7 @@ fn has_fallen<R: Rack>(rack: &mut R) -> bool
     put_row(rack, 0, 1)
 }
 
-/// A heal syncs, attaches, copies row by row and page by page, and syncs. A second one does nothing.
+// A heal syncs, attaches, copies row by row and page by page, and syncs. A second one does nothing.
 #[test]
 fn a_heal_in_order(rt: HostRuntime) -> Result<(), Fail> {
     let notes: Notes = RefCell::new(Vec::new(rt.alloc()));

@@ -2,30 +2,14 @@
 
 ghost use Rattle.std.specs.Prelude.{◌≡◌, Some};
 
-use crate::marks::{OTHER, SMALL, is_ready, marks_alone, mirror_of, rack_of};
+use crate::marks::{BOTH, LEFT, OTHER, RIGHT, SMALL, ZEROS, is_ready, marks_alone, mirror_of};
 use bm_mirror::{Mirror, Side, Sides};
 use bm_rack::{AttachError, CreateError, Found, Rack};
 use std::alloc::Global;
 use std::test::Fail;
+use test_helpers::rack_of;
 
-const BOTH: Sides = Sides {
-    left: true,
-    right: true,
-};
-
-const LEFT: Sides = Sides {
-    left: true,
-    right: false,
-};
-
-const RIGHT: Sides = Sides {
-    left: false,
-    right: true,
-};
-
-const ZEROS: [Option<u8>; 5] = [Some(0), Some(0), Some(0), Some(0), Some(0)];
-
-/// What create answered, which sides are in, and what each holds then.
+// What create answered, which sides are in, and what each holds then.
 #[derive(Clone, Copy, Debug, PartialEq, Eq)]
 struct Made {
     answer: Result<(), CreateError>,
@@ -33,8 +17,8 @@ struct Made {
     held: [Option<[Option<u8>; 5]>; 2],
 }
 
-/// Creates a mirror over racks where something stands already or nothing does, and whose calls of
-/// these numbers fail.
+// Creates a mirror over racks where something stands already or nothing does, and whose calls of
+// these numbers fail.
 fn make(alloc: Global, stands: [bool; 2], faults: [&[u64]; 2], first: Side) -> Option<Made> {
     let [left_stands, right_stands] = stands;
     let [left_faults, right_faults] = faults;
@@ -70,7 +54,7 @@ fn made_as(
     })
 }
 
-/// The other side is in exactly where it was made, and a refusal of the first leaves it made.
+// The other side is in exactly where it was made, and a refusal of the first leaves it made.
 #[test]
 fn create_of_both(rt: HostRuntime) -> Result<(), Fail> {
     let a = rt.alloc();
@@ -109,7 +93,7 @@ fn create_of_both(rt: HostRuntime) -> Result<(), Fail> {
     Ok(())
 }
 
-/// What a create and an attach with these sizes and with others answer on two sides that are in.
+// What a create and an attach with these sizes and with others answer on two sides that are in.
 fn looked_at(
     alloc: Global,
     right: &[u64],
@@ -129,7 +113,7 @@ fn looked_at(
     Some((again, [early, other, same], mirror.sides()))
 }
 
-/// Right is asked by create, by the attach that finds something else not, and then by the last.
+// Right is asked by create, by the attach that finds something else not, and then by the last.
 #[test]
 fn attach_of_both(rt: HostRuntime) -> Result<(), Fail> {
     let present = Err(CreateError::Present);

@@ -20,11 +20,11 @@ use test_helpers::{
     areas_of, counted, draw_map, has_disks, has_moved, read_area, records_of, write_area,
 };
 
-/// The bytes 0 to 15.
+// The bytes 0 to 15.
 const INPUT: [u8; 16] = [0, 1, 2, 3, 4, 5, 6, 7, 8, 9, 10, 11, 12, 13, 14, 15];
 
-/// Does one pass by the map from the input to the first area. The number of its row calls, or
-/// nothing where it failed or the map has no form.
+// Does one pass by the map from the input to the first area. The number of its row calls, or
+// nothing where it failed or the map has no form.
 fn row_calls<R: Rack>(alloc: Global, rack: &mut R, shape: &Shape, map: &Affine) -> Option<u64>
     requires { (R.view rack.old).attached ≡ Some (dims_of shape.now) }
     ensures { (R.view rack.new).attached ≡ Some (dims_of shape.now) }
@@ -42,7 +42,7 @@ fn row_calls<R: Rack>(alloc: Global, rack: &mut R, shape: &Shape, map: &Affine) 
     rack.rows().checked_sub(before)
 }
 
-/// The first area after one pass by the map over this input, and the row calls of the pass.
+// The first area after one pass by the map over this input, and the row calls of the pass.
 fn passed(alloc: Global, shape: &Shape, map: &Affine, input: &[u8]) -> Option<(Vec<u8>, u64)> {
     let mut rack = SureRack::new(alloc);
     if !has_disks(&mut rack, shape) || !write_area(&mut rack, shape, Area::Input, input) {
@@ -53,7 +53,7 @@ fn passed(alloc: Global, shape: &Shape, map: &Affine, input: &[u8]) -> Option<(V
     Some((bytes, calls))
 }
 
-/// Three maps of one pass, with the permuted list of sixteen records of one byte.
+// Three maps of one pass, with the permuted list of sixteen records of one byte.
 #[test]
 fn one_pass_of_sixteen_records(rt: HostRuntime) -> Result<(), Fail> {
     let shape = Shape::new(4, 1, 1, 3, 1).ok().ok_or("shape")?;
@@ -76,7 +76,7 @@ fn one_pass_of_sixteen_records(rt: HostRuntime) -> Result<(), Fail> {
     Ok(())
 }
 
-/// Every width from 1 to 256 bytes, and the widest: record x goes to x XOR x / 2.
+// Every width from 1 to 256 bytes, and the widest: record x goes to x XOR x / 2.
 #[test]
 fn every_width(rt: HostRuntime) -> Result<(), Fail> {
     let map = gray(6);
@@ -101,9 +101,9 @@ fn every_width(rt: HostRuntime) -> Result<(), Fail> {
     Ok(())
 }
 
-/// A failing row call leaves the input and the area that is not the target.
-///
-/// Create and attach are calls 1 and 2, the input is written by calls 3 to 6, the pass is calls 7 to 14.
+// A failing row call leaves the input and the area that is not the target.
+//
+// Create and attach are calls 1 and 2, the input is written by calls 3 to 6, the pass is calls 7 to 14.
 #[test]
 fn failing_row_calls(rt: HostRuntime) -> Result<(), Fail> {
     let shape = Shape::new(4, 1, 1, 3, 1).ok().ok_or("shape")?;
@@ -126,7 +126,7 @@ fn failing_row_calls(rt: HostRuntime) -> Result<(), Fail> {
     Ok(())
 }
 
-/// Whether the loads of a pass by the map go in two steps.
+// Whether the loads of a pass by the map go in two steps.
 fn goes_in_steps(shape: &Shape, map: &Affine) -> bool {
     if map.a.n != shape.n() {
         return false;
@@ -143,16 +143,16 @@ fn goes_in_steps(shape: &Shape, map: &Affine) -> bool {
     best_split(&placing, shape.b() + shape.d()).is_some()
 }
 
-/// Rows of a map of 19 bits: the lowest 18 bits are reversed, and the highest bit becomes the sum of
-/// the highest and the lowest. So one load fills the upper half of one target load and the lower half
-/// of the other.
+// Rows of a map of 19 bits: the lowest 18 bits are reversed, and the highest bit becomes the sum of
+// the highest and the lowest. So one load fills the upper half of one target load and the lower half
+// of the other.
 const ACROSS_LOADS: [u64; 19] = [
     131072, 65536, 32768, 16384, 8192, 4096, 2048, 1024, 512, 256, 128, 64, 32, 16, 8, 4, 2, 1,
     262145,
 ];
 
-/// Loads of 2 MiB in rows of 64 KiB: record x goes to where the map takes it. The loads go in two steps
-/// but for one map, which sends neighbours to few lines.
+// Loads of 2 MiB in rows of 64 KiB: record x goes to where the map takes it. The loads go in two steps
+// but for one map, which sends neighbours to few lines.
 #[test]
 fn passes_in_two_steps(rt: HostRuntime) -> Result<(), Fail> {
     let mut state = 1u64;
@@ -176,15 +176,15 @@ fn passes_in_two_steps(rt: HostRuntime) -> Result<(), Fail> {
     Ok(())
 }
 
-/// The butterflies of pass i, from 0, of a round on the bits below `low`.
+// The butterflies of pass i, from 0, of a round on the bits below `low`.
 fn low_at(i: u16, low: u8) -> u8
     ensures { result ≤ low }
 {
     if i == 0 { low } else { 0 }
 }
 
-/// Does a round of the transform: butterflies on the lowest bits, and then the rotation by as many.
-/// The answer is the number of passes, with those before it.
+// Does a round of the transform: butterflies on the lowest bits, and then the rotation by as many.
+// The answer is the number of passes, with those before it.
 fn has_round<R: Rack>(
     alloc: Global,
     rack: &mut R,
@@ -212,7 +212,7 @@ fn has_round<R: Rack>(
     Some(before.wrapping_add(plan.len()))
 }
 
-/// Does the transform, in rounds of as many bits as a load has, and answers its number of passes.
+// Does the transform, in rounds of as many bits as a load has, and answers its number of passes.
 fn has_rounds<R: Rack>(alloc: Global, rack: &mut R, shape: &Shape, bufs: &mut Bufs) -> Option<u16>
     requires attached { (R.view rack.old).attached ≡ Some (dims_of shape.now) }
     requires width { shape.now.width ≡ 8 }
@@ -229,7 +229,7 @@ fn has_rounds<R: Rack>(alloc: Global, rack: &mut R, shape: &Shape, bufs: &mut Bu
     Some(passes)
 }
 
-/// The passes and the row calls of the transform of these numbers, and what it makes of them.
+// The passes and the row calls of the transform of these numbers, and what it makes of them.
 fn transformed(alloc: Global, shape: &Shape, input: &[u8]) -> Option<(u16, u64, Vec<u8>)> {
     if shape.width() != 8 {
         return None;
@@ -247,7 +247,7 @@ fn transformed(alloc: Global, shape: &Shape, input: &[u8]) -> Option<(u16, u64, 
     Some((passes, calls, bytes))
 }
 
-/// The sizes n, b, d and m, the numbers, and what the transform makes of them.
+// The sizes n, b, d and m, the numbers, and what the transform makes of them.
 #[derive(Clone, Copy)]
 struct TransformRow {
     sizes: (u8, u8, u8, u8),
@@ -255,11 +255,11 @@ struct TransformRow {
     output: &'static [u64],
 }
 
-/// -1 modulo 2^64.
+// -1 modulo 2^64.
 const MINUS: u64 = u64::MAX;
 
-/// The transform of four and of sixteen numbers: w[k] is the sum of all v[x], each negative where k
-/// and x have an odd number of ones in common.
+// The transform of four and of sixteen numbers: w[k] is the sum of all v[x], each negative where k
+// and x have an odd number of ones in common.
 #[test]
 fn transforms(rt: HostRuntime) -> Result<(), Fail> {
     let rows = [

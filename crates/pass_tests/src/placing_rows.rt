@@ -17,10 +17,10 @@ use std::alloc::Global;
 use std::test::Fail;
 use test_helpers::{draw, draw_map, has_moved, pattern};
 
-/// The widths that have a form of their own, and 3.
+// The widths that have a form of their own, and 3.
 const WIDTHS: [u16; 15] = [1, 2, 3, 4, 8, 12, 16, 24, 32, 48, 64, 96, 128, 192, 256];
 
-/// Copies these records to the row list, and places them as the row of this number.
+// Copies these records to the row list, and places them as the row of this number.
 fn place_row(bufs: &mut Bufs, shape: &Shape, placing: &Placing, row: u64, records: &[u8])
     requires row { row < load_stripes shape.now }
     requires records { length records.now ≡ 2 ^ (shape.now.b + shape.now.d) * shape.now.width }
@@ -32,7 +32,7 @@ fn place_row(bufs: &mut Bufs, shape: &Shape, placing: &Placing, row: u64, record
     bufs.place_row(placing, row << (shape.b() + shape.d()));
 }
 
-/// Places a load row by row. The answer is whether the records are those of its rows.
+// Places a load row by row. The answer is whether the records are those of its rows.
 fn place_rows(bufs: &mut Bufs, shape: &Shape, placing: &Placing, records: &[u8]) -> bool
     requires placing { IsOfLoad shape.now placing.now }
     requires fits { FitsShape shape.now bufs.old }
@@ -50,8 +50,8 @@ fn place_rows(bufs: &mut Bufs, shape: &Shape, placing: &Placing, records: &[u8])
     rest.is_empty()
 }
 
-/// Whether the two steps take each record to where the placing takes it. The load list has none
-/// of the records' bytes before.
+// Whether the two steps take each record to where the placing takes it. The load list has none
+// of the records' bytes before.
 fn is_placed(
     bufs: &mut Bufs,
     shape: &Shape,
@@ -78,8 +78,8 @@ fn is_placed(
         )
 }
 
-/// How many of the maps have two steps by runs of 2^low records. Nothing where the steps of one
-/// take a record elsewhere.
+// How many of the maps have two steps by runs of 2^low records. Nothing where the steps of one
+// take a record elsewhere.
 fn count_by_run(
     bufs: &mut Bufs,
     shape: &Shape,
@@ -111,7 +111,7 @@ fn count_by_run(
     Some(count)
 }
 
-/// The same for the runs of every length from 2 records on and below a load.
+// The same for the runs of every length from 2 records on and below a load.
 fn count_by_shape(alloc: Global, shape: &Shape, maps: &[Affine], records: &[u8]) -> Option<u64> {
     let mut bufs = Bufs::new(alloc, shape).ok()?;
     let mut count = 0u64;
@@ -121,7 +121,7 @@ fn count_by_shape(alloc: Global, shape: &Shape, maps: &[Affine], records: &[u8])
     Some(count)
 }
 
-/// The same for loads of 2^m records in rows of every length.
+// The same for loads of 2^m records in rows of every length.
 fn count_by_load(alloc: Global, m: u8, width: u16, maps: &[Affine]) -> Option<u64>
     requires { m ≤ 32 }
 {
@@ -135,7 +135,7 @@ fn count_by_load(alloc: Global, m: u8, width: u16, maps: &[Affine]) -> Option<u6
     Some(count)
 }
 
-/// Named maps of m bits and two that are drawn, each with a constant that is drawn.
+// Named maps of m bits and two that are drawn, each with a constant that is drawn.
 fn maps_of(alloc: Global, state: &mut u64, m: u8) -> Option<Vec<Affine>>
     requires some { 1 ≤ m }
     requires few { m ≤ 32 }
@@ -161,12 +161,12 @@ fn maps_of(alloc: Global, state: &mut u64, m: u8) -> Option<Vec<Affine>>
     Some(maps)
 }
 
-/// Records of every width, loads of 8 to 1024 records, rows of every length, runs from 2 records on:
-/// where there are two steps, they take each record to where the placing takes it.
-///
-/// There are two steps just where a row has room for a tile. How often that is was counted apart from
-/// this code, by the dimension of a tile: of the span of the lowest units, a run's bits of them, and of
-/// their images.
+// Records of every width, loads of 8 to 1024 records, rows of every length, runs from 2 records on:
+// where there are two steps, they take each record to where the placing takes it.
+//
+// There are two steps just where a row has room for a tile. How often that is was counted apart from
+// this code, by the dimension of a tile: of the span of the lowest units, a run's bits of them, and of
+// their images.
 #[test]
 fn every_load_in_two_steps(rt: HostRuntime) -> Result<(), Fail> {
     let mut state = 1u64;
@@ -183,8 +183,8 @@ fn every_load_in_two_steps(rt: HostRuntime) -> Result<(), Fail> {
     Ok(())
 }
 
-/// What is chosen for a placing, by today's bounds of `best_split`: the bits of a run and of a tile. A
-/// bit reversal has tiles of twice the bits of a run, up to its own.
+// What is chosen for a placing, by today's bounds of `best_split`: the bits of a run and of a tile. A
+// bit reversal has tiles of twice the bits of a run, up to its own.
 #[test]
 fn choices_of_steps(rt: HostRuntime) -> Result<(), Fail> {
     let far = bits(

@@ -17,10 +17,10 @@ use std::alloc::Global;
 use std::test::Fail;
 use test_helpers::{areas_of, has_disks, read_area, write_area};
 
-/// The bytes 0 to 15.
+// The bytes 0 to 15.
 const INPUT: [u8; 16] = [0, 1, 2, 3, 4, 5, 6, 7, 8, 9, 10, 11, 12, 13, 14, 15];
 
-/// Does the passes of a plan in order, where no call fails.
+// Does the passes of a plan in order, where no call fails.
 fn has_run<R: Rack>(rack: &mut R, shape: &Shape, plan: &Plan, bufs: &mut Bufs) -> bool
     requires attached { (R.view rack.old).attached ≡ Some (dims_of shape.now) }
     requires plan { plan.now.shape ≡ shape.now }
@@ -36,7 +36,7 @@ fn has_run<R: Rack>(rack: &mut R, shape: &Shape, plan: &Plan, bufs: &mut Bufs) -
     true
 }
 
-/// How many passes the plan of the map has, and the records that they make of the input.
+// How many passes the plan of the map has, and the records that they make of the input.
 fn planned(alloc: Global, shape: &Shape, map: &Affine, input: &[u8]) -> Option<(u16, Vec<u8>)> {
     if map.a.n != shape.n() {
         return None;
@@ -55,7 +55,7 @@ fn planned(alloc: Global, shape: &Shape, map: &Affine, input: &[u8]) -> Option<(
     Some((plan.len(), bytes))
 }
 
-/// The number of passes of each map, and the permuted list of its records of one byte.
+// The number of passes of each map, and the permuted list of its records of one byte.
 #[test]
 fn plans_of_sixteen_records(rt: HostRuntime) -> Result<(), Fail> {
     let reversed = [0, 8, 4, 12, 2, 10, 6, 14, 1, 9, 5, 13, 3, 11, 7, 15];
@@ -96,7 +96,7 @@ fn plans_of_sixteen_records(rt: HostRuntime) -> Result<(), Fail> {
     Ok(())
 }
 
-/// A singular map, and two maps of many records, which are planned at once.
+// A singular map, and two maps of many records, which are planned at once.
 #[test]
 fn plans_of_large_maps(rt: HostRuntime) -> Result<(), Fail> {
     let shape = Shape::new(4, 1, 1, 3, 1).ok().ok_or("shape")?;

@@ -2,7 +2,7 @@
 
 ghost use Rattle.std.specs.Prelude.{◌≡◌};
 
-use bm_base::{Dims, Failed};
+use bm_base::{Dims, Failed, PAGE_BYTES};
 use bm_rack::{AttachError, CreateError, Found, Rack};
 use std::alloc::Global;
 
@@ -89,12 +89,12 @@ impl<R: Rack + Drop> Rack for Recorder<R> {
         self.inner.write_row(places, bytes)
     }
 
-    fn read_page(&mut self, page: u16, bytes: &mut [u8; 512]) -> Result<(), Failed> {
+    fn read_page(&mut self, page: u16, bytes: &mut [u8; PAGE_BYTES]) -> Result<(), Failed> {
         let _ = self.calls.push(Call::ReadPage { page });
         self.inner.read_page(page, bytes)
     }
 
-    fn write_page(&mut self, page: u16, bytes: &[u8; 512]) -> Result<(), Failed> {
+    fn write_page(&mut self, page: u16, bytes: &[u8; PAGE_BYTES]) -> Result<(), Failed> {
         let _ = self.calls.push(Call::WritePage { page });
         self.inner.write_page(page, bytes)
     }

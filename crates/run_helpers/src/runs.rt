@@ -1,25 +1,49 @@
 //! Runs of permutations of sixteen records of one byte.
 
-ghost use Rattle.std.specs.Prelude.{◌≡◌, IsTrue, Some};
+ghost use Rattle.std.specs.Prelude.{◌≡◌, IsTrue, IfSome, Some, length};
 ghost use Rattle.bm_base.specs.Shape.{dims_of};
+ghost use Rattle.bm_forms.specs.declared.job.Job.TheVariants.{Permute};
+ghost use Rattle.bm_forms.specs.Plan.{StandsFor};
+ghost use Rattle.bm_control.specs.Bodies.{JobBodyFits};
 
 use crate::slates::is_job;
 use bm_base::{Area, RunReport, Shape};
 use bm_bufs::Bufs;
 use bm_control::open_load;
 use bm_factor::factor;
-use bm_forms::Job;
+use bm_forms::{Job, Plan};
 use bm_gf2::Affine;
 use bm_job::{RunError, run_job};
-use bm_rack::Rack;
+use bm_rack::{Found, Rack};
 use std::alloc::Global;
 use test_helpers::{areas_of, has_disks, read_area, write_area};
 
 /// The bytes 0 to 15.
 pub const INPUT: [u8; 16] = [0, 1, 2, 3, 4, 5, 6, 7, 8, 9, 10, 11, 12, 13, 14, 15];
 
-/// The same with the bits of each address reversed.
+/// The bytes 0 to 15, with the bits of each address reversed.
 pub const REVERSED: [u8; 16] = [0, 8, 4, 12, 2, 10, 6, 14, 1, 9, 5, 13, 3, 11, 7, 15];
+
+/// The bytes 0 to 15, with the one at x moved to x XOR x / 2.
+pub const GRAYED: [u8; 16] = [0, 1, 3, 2, 7, 6, 4, 5, 15, 14, 12, 13, 8, 9, 11, 10];
+
+/// What a stop leaves of each unit that is not durable: what stands, zeros, ones, or the first half.
+pub const PICKS: [u64; 4] = [
+    0,
+    0x5555_5555_5555_5555,
+    0xAAAA_AAAA_AAAA_AAAA,
+    0xFFFF_FFFF_FFFF_FFFF,
+];
+
+/// Attaches the disks of a shape, where disks of its dims stand.
+pub fn is_attached<R: Rack>(rack: &mut R, shape: &Shape) -> bool
+    ensures { IsTrue result → (R.view rack.new).attached ≡ Some (dims_of shape.now) }
+{
+    match rack.attach(&shape.dims()) {
+        Ok(Found::Ready) => true,
+        _ => false,
+    }
+}
 
 /// Makes the disks of a shape, writes the input, and opens the load gate: on two disks in blocks of
 /// two, eight records in a load, ten device calls.
@@ -29,6 +53,25 @@ pub fn has_loaded<R: Rack>(rack: &mut R, shape: &Shape) -> bool
     has_disks(rack, shape)
         && write_area(rack, shape, Area::Input, &INPUT)
         && open_load(rack, shape).is_ok()
+}
+
+/// The plan of the permutation by the map, for a job whose progress is made durable after `every`
+/// loads of a pass. Nothing where it is no job of the shape, or memory is refused.
+pub fn plan_of(alloc: Global, shape: &Shape, map: &Affine, every: u64) -> Option<Plan>
+    ensures stands { IfSome result (λ plan. StandsFor plan shape.now (Permute map.now)) }
+    ensures fits { IfSome result (λ plan.
+        JobBodyFits shape.now (Permute map.now) (length plan.forms) every) }
+{
+    if map.a.n != shape.n() {
+        return None;
+    }
+    let Ok(plan) = factor(alloc, shape, map) else {
+        return None;
+    };
+    if !is_job(shape, map, plan.len(), every) {
+        return None;
+    }
+    Some(plan)
 }
 
 /// What a run of the permutation by the map answers. Nothing where it is no job of the shape, or
@@ -43,15 +86,7 @@ pub fn ran<R: Rack>(
     requires { (R.view rack.old).attached ≡ Some (dims_of shape.now) }
     ensures { (R.view rack.new).attached ≡ Some (dims_of shape.now) }
 {
-    if map.a.n != shape.n() {
-        return None;
-    }
-    let Ok(plan) = factor(alloc, shape, map) else {
-        return None;
-    };
-    if !is_job(shape, map, plan.len(), every) {
-        return None;
-    }
+    let plan = plan_of(alloc, shape, map, every)?;
     let mut bufs = Bufs::new(alloc, shape).ok()?;
     let job = Job::Permute(*map);
     Some(run_job(rack, shape, &job, &plan, &mut bufs, every))

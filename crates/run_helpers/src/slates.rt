@@ -75,7 +75,7 @@ pub fn is_job(shape: &Shape, map: &Affine, passes: u16, every: u64) -> bool
     passes >= 1 && passes <= most && every >= 1 && every <= shape.loads()
 }
 
-/// Starts a job by the map, where its numbers are in range and no call fails.
+// Starts a job by the map, where its numbers are in range and no call fails.
 fn has_started<R: Rack>(rack: &mut R, shape: &Shape, map: &Affine, plan: &Plan, every: u64) -> bool
     requires ready { IsAttached (R.view rack.old).attached }
     requires plan { plan.now.shape ≡ shape.now }
@@ -87,7 +87,7 @@ fn has_started<R: Rack>(rack: &mut R, shape: &Shape, map: &Affine, plan: &Plan, 
     start_job(rack, shape, &Job::Permute(*map), plan, every).is_ok()
 }
 
-/// Marks a part of a pass, where its numbers are in range and no call fails.
+// Marks a part of a pass, where its numbers are in range and no call fails.
 fn has_marked<R: Rack>(rack: &mut R, shape: &Shape, slot: u8, pass: u16, loads: u64) -> bool
     requires ready { IsAttached (R.view rack.old).attached }
     ensures { IsAttached (R.view rack.new).attached }

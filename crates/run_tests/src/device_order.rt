@@ -6,7 +6,7 @@ use bm_named::bit_reversal;
 use run_helpers::{Call, Recorder, has_loaded, ran, report};
 use std::test::Fail;
 
-/// A call as the order names it: a row that is read by its place, one that is written by its area.
+// A call as the order names it: a row that is read by its place, one that is written by its area.
 #[derive(Clone, Copy, Debug, PartialEq, Eq)]
 enum Seen {
     Read(u64),
@@ -19,7 +19,7 @@ enum Seen {
 
 use Seen::{Read, ReadPage, Sync, Write, WritePage};
 
-/// The calls of a new run of two passes over two loads each.
+// The calls of a new run of two passes over two loads each.
 const NEW_RUN: [Seen; 36] = [
     Sync,
     ReadPage(1),
@@ -59,7 +59,7 @@ const NEW_RUN: [Seen; 36] = [
     Sync,
 ];
 
-/// The same with progress made durable after each load.
+// The same with progress made durable after each load.
 const MARKED_RUN: [Seen; 50] = [
     Sync,
     ReadPage(1),
@@ -129,7 +129,7 @@ fn in_order(call: &Call) -> Seen {
     }
 }
 
-/// A run makes the listed calls in the listed order, with and without checkpoints.
+// A run makes the listed calls in the listed order, with and without checkpoints.
 #[test]
 fn calls_in_order(rt: HostRuntime) -> Result<(), Fail> {
     let shape = Shape::new(4, 1, 1, 3, 1).ok().ok_or("shape")?;

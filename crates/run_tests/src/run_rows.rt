@@ -13,23 +13,22 @@ use bm_gf2::Affine;
 use bm_job::{Machine, RunError, Turn};
 use bm_memrack::MemRack;
 use bm_named::{bit_reversal, gray};
-use bm_rack::{Found, Rack};
-use run_helpers::{REVERSED, Step, has_loaded, have_made, holds, is_job, ran, report};
+use bm_rack::Rack;
+use run_helpers::{
+    GRAYED, REVERSED, Step, has_loaded, have_made, holds, is_attached, plan_of, ran, report,
+};
 use std::alloc::Global;
 use std::test::Fail;
 use test_helpers::{has_disks, read_area};
 
-/// The bytes 0 to 15, with the one at x moved to x XOR x / 2.
-const GRAY: [u8; 16] = [0, 1, 3, 2, 7, 6, 4, 5, 15, 14, 12, 13, 8, 9, 11, 10];
-
-/// What runs in a row answer, and what stands after the first and after the last.
+// What runs in a row answer, and what stands after the first and after the last.
 #[derive(Clone, Copy, Debug, PartialEq, Eq)]
 struct Runs {
     answers: [Option<Result<RunReport, RunError>>; 4],
     holds: (bool, bool),
 }
 
-/// Runs the bit reversal twice and the Gray code, closes the job, and runs the Gray code again.
+// Runs the bit reversal twice and the Gray code, closes the job, and runs the Gray code again.
 fn runs_in_a_row<R: Rack>(alloc: Global, rack: &mut R, shape: &Shape, every: u64) -> Runs
     requires { (R.view rack.old).attached ≡ Some (dims_of shape.now) }
 {
@@ -39,14 +38,14 @@ fn runs_in_a_row<R: Rack>(alloc: Global, rack: &mut R, shape: &Shape, every: u64
     let other = ran(alloc, rack, shape, &gray(4), every);
     let closed = close_job(rack).is_ok();
     let last = ran(alloc, rack, shape, &gray(4), every);
-    let moved = holds(alloc, rack, shape, 1, &GRAY);
+    let moved = holds(alloc, rack, shape, 1, &GRAYED);
     Runs {
         answers: [first, second, other, last],
         holds: (reversed, closed && moved),
     }
 }
 
-/// A job that is done is done again at no row call. Another job is run after it is closed.
+// A job that is done is done again at no row call. Another job is run after it is closed.
 #[test]
 fn runs_after_a_run(rt: HostRuntime) -> Result<(), Fail> {
     let shape = Shape::new(4, 1, 1, 3, 1).ok().ok_or("shape")?;
@@ -70,17 +69,7 @@ fn runs_after_a_run(rt: HostRuntime) -> Result<(), Fail> {
     Ok(())
 }
 
-/// Attaches the disks for another shape that has the same dims.
-fn is_attached<R: Rack>(rack: &mut R, shape: &Shape) -> bool
-    ensures { IsTrue result → (R.view rack.new).attached ≡ Some (dims_of shape.now) }
-{
-    match rack.attach(&shape.dims()) {
-        Ok(Found::Ready) => true,
-        _ => false,
-    }
-}
-
-/// The bytes of the areas and of the control file, where memory is given and no call fails.
+// The bytes of the areas and of the control file, where memory is given and no call fails.
 fn all_bytes<R: Rack>(alloc: Global, rack: &mut R, shape: &Shape) -> Option<Vec<u8>>
     requires { (R.view rack.old).attached ≡ Some (dims_of shape.now) }
     ensures { (R.view rack.new).attached ≡ Some (dims_of shape.now) }
@@ -102,7 +91,7 @@ fn all_bytes<R: Rack>(alloc: Global, rack: &mut R, shape: &Shape) -> Option<Vec<
     Some(bytes)
 }
 
-/// What a run answers, its row calls, and whether blocks and pages are as before.
+// What a run answers, its row calls, and whether blocks and pages are as before.
 #[derive(Clone, Copy, Debug, PartialEq, Eq)]
 struct Answer {
     answer: Result<RunReport, RunError>,
@@ -110,7 +99,7 @@ struct Answer {
     same: bool,
 }
 
-/// Runs the permutation by the map.
+// Runs the permutation by the map.
 fn answer_of<R: Rack>(alloc: Global, rack: &mut R, shape: &Shape, map: &Affine) -> Option<Answer>
     requires { (R.view rack.old).attached ≡ Some (dims_of shape.now) }
 {
@@ -126,7 +115,7 @@ fn answer_of<R: Rack>(alloc: Global, rack: &mut R, shape: &Shape, map: &Affine) 
     })
 }
 
-/// A change of the control file before a run.
+// A change of the control file before a run.
 #[derive(Clone, Copy, Debug, PartialEq, Eq)]
 enum Change {
     None,
@@ -136,7 +125,7 @@ enum Change {
     CloseLoad,
 }
 
-/// Makes the steps of the bit reversal, and the change. Whether no call failed.
+// Makes the steps of the bit reversal, and the change. Whether no call failed.
 fn is_made<R: Rack>(
     rack: &mut R,
     shape: &Shape,
@@ -157,8 +146,8 @@ fn is_made<R: Rack>(
     }
 }
 
-/// Makes the steps of the bit reversal of eight records in a load, and the change. Then it runs the
-/// permutation by a map with loads of 2^m.
+// Makes the steps of the bit reversal of eight records in a load, and the change. Then it runs the
+// permutation by a map with loads of 2^m.
 fn answer_after(
     alloc: Global,
     steps: [Step; 6],
@@ -183,7 +172,7 @@ fn answer_after(
     answer_of(alloc, &mut rack, &shape, map)
 }
 
-/// A refusal makes no row call, and leaves blocks and pages.
+// A refusal makes no row call, and leaves blocks and pages.
 #[test]
 fn refusals(rt: HostRuntime) -> Result<(), Fail> {
     let no = Step::Nothing;
@@ -241,12 +230,12 @@ fn refusals(rt: HostRuntime) -> Result<(), Fail> {
     Ok(())
 }
 
-/// Zeros on a page.
+// Zeros on a page.
 fn zeros(page: u16) -> Change {
     Change::Zeros { page }
 }
 
-/// What a machine tells after a turn, with the row calls so far.
+// What a machine tells after a turn, with the row calls so far.
 #[derive(Clone, Copy, Debug, PartialEq, Eq)]
 struct Told {
     answer: Result<Turn, RunError>,
@@ -258,7 +247,7 @@ struct Told {
     rows: u64,
 }
 
-/// Takes a turn.
+// Takes a turn.
 fn told_after<R: Rack>(machine: &mut Machine, rack: &mut R, bufs: &mut Bufs) -> Told
     requires alive { IsTrue machine.old.alive }
     requires attached { (R.view rack.old).attached ≡ Some (dims_of machine.old.shape) }
@@ -279,7 +268,7 @@ fn told_after<R: Rack>(machine: &mut Machine, rack: &mut R, bufs: &mut Bufs) -> 
     }
 }
 
-/// Takes so many turns of the machine, or fewer where it is no more alive.
+// Takes so many turns of the machine, or fewer where it is no more alive.
 fn turns_of<R: Rack>(
     alloc: Global,
     machine: Machine,
@@ -301,7 +290,7 @@ fn turns_of<R: Rack>(
     Some(list)
 }
 
-/// Begins the permutation by the map, and takes so many turns.
+// Begins the permutation by the map, and takes so many turns.
 fn by_turns<R: Rack>(
     alloc: Global,
     rack: &mut R,
@@ -312,15 +301,7 @@ fn by_turns<R: Rack>(
 ) -> Option<Vec<Told>>
     requires { (R.view rack.old).attached ≡ Some (dims_of shape.now) }
 {
-    if map.a.n != shape.n() {
-        return None;
-    }
-    let Ok(plan) = factor(alloc, shape, map) else {
-        return None;
-    };
-    if !is_job(shape, map, plan.len(), every) {
-        return None;
-    }
+    let plan = plan_of(alloc, shape, map, every)?;
     let Ok(mut bufs) = Bufs::new(alloc, shape) else {
         return None;
     };
@@ -330,7 +311,7 @@ fn by_turns<R: Rack>(
     turns_of(alloc, machine, rack, &mut bufs, count)
 }
 
-/// The turns of the bit reversal on new disks, whose device calls with these numbers fail.
+// The turns of the bit reversal on new disks, whose device calls with these numbers fail.
 fn reversal_by_turns(
     alloc: Global,
     (d, m): (u8, u8),
@@ -346,7 +327,7 @@ fn reversal_by_turns(
     by_turns(alloc, &mut rack, &shape, &bit_reversal(4), every, count)
 }
 
-/// Each turn moves a load by four row calls. The last one ends all passes, and one more does nothing.
+// Each turn moves a load by four row calls. The last one ends all passes, and one more does nothing.
 #[test]
 fn turns_to_the_end(rt: HostRuntime) -> Result<(), Fail> {
     // the passes, and the loads of each
@@ -389,10 +370,10 @@ fn turns_to_the_end(rt: HostRuntime) -> Result<(), Fail> {
     Ok(())
 }
 
-/// After a turn that failed the machine is as before and not alive.
-///
-/// Ten device calls are made before, and twelve by the start. The calls of pass 1 after them: its body is
-/// read, eight row calls, a sync, its gate is written, a sync.
+// After a turn that failed the machine is as before and not alive.
+//
+// Ten device calls are made before, and twelve by the start. The calls of pass 1 after them: its body is
+// read, eight row calls, a sync, its gate is written, a sync.
 #[test]
 fn turns_that_fail(rt: HostRuntime) -> Result<(), Fail> {
     let rows = [

@@ -9,20 +9,12 @@ use bm_job::RunError;
 use bm_memrack::MemRack;
 use bm_named::bit_reversal;
 use bm_rack::StopRack;
-use run_helpers::{REVERSED, has_loaded, holds, ran, report};
+use run_helpers::{PICKS, REVERSED, has_loaded, holds, ran, report};
 use std::alloc::Global;
 use std::test::Fail;
 
-/// What a stop leaves of each unit that is not durable: what stands, zeros, ones, or the first half.
-const PICKS: [u64; 4] = [
-    0,
-    0x5555_5555_5555_5555,
-    0xAAAA_AAAA_AAAA_AAAA,
-    0xFFFF_FFFF_FFFF_FFFF,
-];
-
-/// The device calls of a new run in order: s is a sync, p a page call, r a row call. G is the write
-/// of a gate that shows loads to be moved; the sync after it makes it durable.
+// The device calls of a new run in order: s is a sync, p a page call, r a row call. G is the write
+// of a gate that shows loads to be moved; the sync after it makes it durable.
 #[derive(Clone, Copy)]
 struct Order {
     calls: &'static [u8],
@@ -30,27 +22,27 @@ struct Order {
     every: u64,
 }
 
-/// Two passes of two loads, whose gates alone show progress.
-///
-/// The sync at the start; pages 1, 0 and 3 are read; pages 2, 4, 5, 6 and 7 written; a sync, page 3
-/// and a sync. In each pass its body is read, eight row calls move its loads, and between two syncs its
-/// gate is written.
+// Two passes of two loads, whose gates alone show progress.
+//
+// The sync at the start; pages 1, 0 and 3 are read; pages 2, 4, 5, 6 and 7 written; a sync, page 3
+// and a sync. In each pass its body is read, eight row calls move its loads, and between two syncs its
+// gate is written.
 const WHOLE: Order = Order {
     calls: b"sppppppppspsprrrrrrrrsGsprrrrrrrrsGs",
     every: 2,
 };
 
-/// The same, and the first load of each pass is counted in the first slot.
-///
-/// Pages 513 and 515 are written too at the start. The slot is closed at first: its gate is read, its
-/// body written, a sync, its gate and a sync. In pass 2 it is open: its gate is read, closed and synced
-/// before that.
+// The same, and the first load of each pass is counted in the first slot.
+//
+// Pages 513 and 515 are written too at the start. The slot is closed at first: its gate is read, its
+// body written, a sync, its gate and a sync. In pass 2 it is open: its gate is read, closed and synced
+// before that.
 const PARTS: Order = Order {
     calls: b"sppppppppppspsprrrrppsGsrrrrsGsprrrrppspsGsrrrrsGs",
     every: 1,
 };
 
-/// How many of the first so many calls are of this letter.
+// How many of the first so many calls are of this letter.
 fn count_of(calls: &[u8], first: usize, letter: u8) -> u64 {
     let mut found = 0u64;
     for (i, call) in calls.iter().enumerate() {
@@ -61,7 +53,7 @@ fn count_of(calls: &[u8], first: usize, letter: u8) -> u64 {
     found
 }
 
-/// What is known after a run that failed, and one after it.
+// What is known after a run that failed, and one after it.
 #[derive(Clone, Copy, Debug, PartialEq, Eq)]
 struct Outcome {
     /// How many runs failed.
@@ -76,9 +68,9 @@ struct Outcome {
     holds: bool,
 }
 
-/// What stands after a run that a stop ends after so many device calls, or none where it is reached
-/// later. The next run finds what the gates show: a gate whose write or sync was stopped is open where
-/// what stands or its first half is left, and closed where zeros or ones are.
+// What stands after a run that a stop ends after so many device calls, or none where it is reached
+// later. The next run finds what the gates show: a gate whose write or sync was stopped is open where
+// what stands or its first half is left, and closed where zeros or ones are.
 fn wanted(order: Order, after: usize, gates_stay: bool) -> Outcome {
     let first = count_of(order.calls, after.wrapping_add(1), b'r');
     if after >= order.calls.len() {
@@ -113,14 +105,14 @@ fn wanted(order: Order, after: usize, gates_stay: bool) -> Outcome {
     }
 }
 
-/// A stop after so many device calls, and what it leaves; or none.
+// A stop after so many device calls, and what it leaves; or none.
 #[derive(Clone, Copy, Debug, PartialEq, Eq)]
 enum Stops {
     Never,
     Once { after: u64, pick: u64 },
 }
 
-/// Runs the job, and where that failed once more, after a restart where there was a stop.
+// Runs the job, and where that failed once more, after a restart where there was a stop.
 fn run_twice<R: StopRack>(
     alloc: Global,
     rack: &mut R,
@@ -163,7 +155,7 @@ fn run_twice<R: StopRack>(
     })
 }
 
-/// The same on new disks, whose device calls with these numbers fail.
+// The same on new disks, whose device calls with these numbers fail.
 fn run_on_disks(
     alloc: Global,
     faults: Vec<u64>,
@@ -187,7 +179,7 @@ fn run_on_disks(
     )
 }
 
-/// The letters of the two orders: their row calls, page calls and syncs.
+// The letters of the two orders: their row calls, page calls and syncs.
 #[test]
 fn numbers_of_device_calls(rt: HostRuntime) -> Result<(), Fail> {
     for (order, want) in [(WHOLE, (36, 16, 11, 7, 2)), (PARTS, (50, 16, 18, 12, 4))] {
@@ -205,7 +197,7 @@ fn numbers_of_device_calls(rt: HostRuntime) -> Result<(), Fail> {
     Ok(())
 }
 
-/// A stop at each device call, with each pick. All of them are made where the stop comes after the last.
+// A stop at each device call, with each pick. All of them are made where the stop comes after the last.
 #[test]
 fn stops_of_a_run(rt: HostRuntime) -> Result<(), Fail> {
     for order in [WHOLE, PARTS] {
@@ -226,9 +218,9 @@ fn stops_of_a_run(rt: HostRuntime) -> Result<(), Fail> {
     Ok(())
 }
 
-/// One device call that fails, without a stop: the next run finds what stands.
-///
-/// Ten calls are made before the run.
+// One device call that fails, without a stop: the next run finds what stands.
+//
+// Ten calls are made before the run.
 #[test]
 fn failing_calls_of_a_run(rt: HostRuntime) -> Result<(), Fail> {
     for order in [WHOLE, PARTS] {
@@ -243,10 +235,10 @@ fn failing_calls_of_a_run(rt: HostRuntime) -> Result<(), Fail> {
     Ok(())
 }
 
-/// The row calls before a stop and in both runs, and what the second one tells.
-///
-/// The numbers of loads after which progress is made durable are those of both runs. The second is not
-/// used, since the stored one is.
+// The row calls before a stop and in both runs, and what the second one tells.
+//
+// The numbers of loads after which progress is made durable are those of both runs. The second is not
+// used, since the stored one is.
 #[test]
 fn stops_after_the_first_gate(rt: HostRuntime) -> Result<(), Fail> {
     let zeros = 0x5555_5555_5555_5555;

@@ -20,7 +20,7 @@ use std::alloc::Global;
 use std::test::Fail;
 use test_helpers::{has_disks, read_area, records_of, write_area};
 
-/// Puts two passes at the end of a plan, where memory is given.
+// Puts two passes at the end of a plan, where memory is given.
 fn has_pushed(plan: &mut Plan, first: PassForm, second: PassForm) -> bool
     requires room { length plan.old.forms + 2 ≤ 256 }
     requires first { IsOfShape plan.old.shape first }
@@ -32,8 +32,8 @@ fn has_pushed(plan: &mut Plan, first: PassForm, second: PassForm) -> bool
     plan.push(first).is_ok() && plan.push(second).is_ok()
 }
 
-/// The plan of the transform of four numbers in two loads, where memory is given: two rounds, each
-/// with butterflies on the lowest bit and the rotation by one bit in two passes.
+// The plan of the transform of four numbers in two loads, where memory is given: two rounds, each
+// with butterflies on the lowest bit and the rotation by one bit in two passes.
 fn transform_plan(alloc: Global, shape: &Shape) -> Option<Plan>
     requires size { shape.now.n ≡ 2 }
     requires memory { shape.now.m ≡ 1 }
@@ -63,7 +63,7 @@ fn transform_plan(alloc: Global, shape: &Shape) -> Option<Plan>
     Some(plan)
 }
 
-/// What a run of the transform answers. Nothing where memory is refused.
+// What a run of the transform answers. Nothing where memory is refused.
 fn ran_transform<R: Rack>(
     alloc: Global,
     rack: &mut R,
@@ -89,7 +89,7 @@ fn ran_transform<R: Rack>(
     Some(run_job(rack, shape, &Job::Walsh, &plan, &mut bufs, every))
 }
 
-/// Loads the numbers and runs the transform: what it answers, and the area after four passes.
+// Loads the numbers and runs the transform: what it answers, and the area after four passes.
 fn transformed<R: Rack>(
     alloc: Global,
     rack: &mut R,
@@ -108,8 +108,8 @@ fn transformed<R: Rack>(
     Some((answer, bytes))
 }
 
-/// Four numbers in two loads: w[k] is the sum of all v[x], each negative where k and x have an odd
-/// number of ones in common.
+// Four numbers in two loads: w[k] is the sum of all v[x], each negative where k and x have an odd
+// number of ones in common.
 #[test]
 fn transform_of_four_numbers(rt: HostRuntime) -> Result<(), Fail> {
     let shape = Shape::new(2, 0, 0, 1, 8).ok().ok_or("shape")?;

@@ -1,8 +1,8 @@
 //! Files that are not as a command left them.
 
-use crate::calling::{clear, loaded, said};
 use bm_filerack::FileRack;
 use file_helpers::enter_empty_folder;
+use session_helpers::{clear, loaded, said};
 use std::fs::File;
 use std::os::unix::fs::{FileExt, symlink};
 use std::test::Fail;
@@ -30,7 +30,7 @@ fn replace(rt: &HostRuntime, path: &str, device: Option<&str>) -> io::Result<()>
     }
 }
 
-/// What is done to the files.
+// What is done to the files.
 #[derive(Clone, Copy, Debug, PartialEq, Eq)]
 enum Change {
     Nothing,
@@ -54,7 +54,7 @@ fn change_files(rt: &HostRuntime, what: Change) -> io::Result<()> {
     }
 }
 
-/// What is done to the files, and the status after it.
+// What is done to the files, and the status after it.
 const CASES: [(Change, u8); 19] = [
     (Change::Nothing, 0),
     (Change::Page(0), 20),
@@ -77,7 +77,7 @@ const CASES: [(Change, u8); 19] = [
     (Change::Device("job.toml", "/dev/zero"), 4),
 ];
 
-/// A run over files that were damaged after another run, and a status after it.
+// A run over files that were damaged after another run, and a status after it.
 #[test]
 fn damage_is_told(rt: HostRuntime) -> Result<(), Fail> {
     enter_empty_folder(&rt, "damage_is_told")?;

@@ -1,9 +1,9 @@
 //! Commands that find the disk full, and the commands after them, when there is room again.
 
-use crate::calling::{Answer, INPUT, REVERSAL, REVERSED, clear, said, said_of};
 use bm_filerack::FileRack;
 use bm_rack::Rack;
 use file_helpers::{Notes, Watched, enter_empty_folder};
+use session_helpers::{Answer, INPUT, REVERSAL, REVERSED, clear, said, said_of};
 use std::fs;
 use std::test::Fail;
 
@@ -17,8 +17,8 @@ const ONE_OF_TWO: &str = "job permute\ngates 1 of 2\n";
 
 const BOTH: &str = "job permute\ngates 2 of 2\n";
 
-/// A command, how many of those in order come before it, its input, and how many writing calls it
-/// makes.
+// A command, how many of those in order come before it, its input, and how many writing calls it
+// makes.
 #[derive(Clone, Copy)]
 struct Case {
     line: &'static str,
@@ -197,9 +197,9 @@ fn first_wrong(rt: &HostRuntime, case: &Case) -> Option<u64> {
     None
 }
 
-/// Each writing call of a command is in turn the first that finds the disk full. The command answers
-/// that the rack failed and writes nothing, and when there is room again the commands that `status`
-/// asks for end with the right records.
+// Each writing call of a command is in turn the first that finds the disk full. The command answers
+// that the rack failed and writes nothing, and when there is room again the commands that `status`
+// asks for end with the right records.
 #[test]
 fn a_step_on_a_full_disk_fails(rt: HostRuntime) -> Result<(), Fail> {
     enter_empty_folder(&rt, "a_step_on_a_full_disk_fails")?;
@@ -215,7 +215,7 @@ fn a_step_on_a_full_disk_fails(rt: HostRuntime) -> Result<(), Fail> {
     Ok(())
 }
 
-/// The same of the other commands.
+// The same of the other commands.
 #[test]
 fn another_command_on_a_full_disk_fails(rt: HostRuntime) -> Result<(), Fail> {
     enter_empty_folder(&rt, "another_command_on_a_full_disk_fails")?;

@@ -1,8 +1,8 @@
 //! Plans of job files.
 
-use crate::calling::said;
 use bm_memrack::SureRack;
 use file_helpers::enter_empty_folder;
+use session_helpers::said;
 use std::fs;
 use std::test::Fail;
 
@@ -11,7 +11,7 @@ const PLAN: &str =
 
 const ROWS: [(&str, u8, &str); 2] = [("plan job.toml", 0, PLAN), ("plan missing.toml", 3, "")];
 
-/// The plan of a job file, and of one that is not there.
+// The plan of a job file, and of one that is not there.
 #[test]
 fn a_job_file_is_planned(rt: HostRuntime) -> Result<(), Fail> {
     enter_empty_folder(&rt, "a_job_file_is_planned")?;

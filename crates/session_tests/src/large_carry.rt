@@ -1,14 +1,14 @@
 //! A large matrix, carried whole over files.
 
-use crate::calling::said_of;
 use bm_filerack::FileRack;
 use bm_rack::Rack;
 use file_helpers::enter_empty_folder;
+use session_helpers::said_of;
 use std::fs;
 use std::test::Fail;
 use test_helpers::{counted, is_transposed};
 
-/// A matrix of 1024 rows and columns of numbers on four disks, in 64 loads.
+// A matrix of 1024 rows and columns of numbers on four disks, in 64 loads.
 #[test]
 fn a_matrix_is_transposed(rt: HostRuntime) -> Result<(), Fail> {
     enter_empty_folder(&rt, "a_matrix_is_transposed")?;

@@ -1,9 +1,9 @@
 //! A million numbers over files: the map that they list, and their transform.
 
-use crate::calling::said_of;
 use bm_filerack::FileRack;
 use bm_gf2::Affine;
 use file_helpers::enter_empty_folder;
+use session_helpers::said_of;
 use std::alloc::Global;
 use std::fs;
 use std::test::Fail;
@@ -57,8 +57,8 @@ fn said_there(rt: &HostRuntime, line: &str, input: Vec<u8>) -> Option<(u8, Vec<u
     Some((said.code, said.out.taken().to_vec(rt.alloc()).ok()?))
 }
 
-/// The images of a random map are loaded, the map is found, and the job text that is written then
-/// carries records as that map does.
+// The images of a random map are loaded, the map is found, and the job text that is written then
+// carries records as that map does.
 #[test]
 fn a_map_is_found_and_carried(rt: HostRuntime) -> Result<(), Fail> {
     enter_empty_folder(&rt, "a_map_is_found_and_carried")?;
@@ -80,7 +80,7 @@ fn a_map_is_found_and_carried(rt: HostRuntime) -> Result<(), Fail> {
     Ok(())
 }
 
-/// The transform of a transform is the input, each number times N.
+// The transform of a transform is the input, each number times N.
 #[test]
 fn a_transform_twice(rt: HostRuntime) -> Result<(), Fail> {
     enter_empty_folder(&rt, "a_transform_twice")?;

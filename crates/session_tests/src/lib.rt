@@ -3,10 +3,6 @@
 #![tactic(auto)]
 
 #[cfg(test)]
-mod batch_runs;
-#[cfg(test)]
-mod calling;
-#[cfg(test)]
 mod damaged_files;
 #[cfg(test)]
 mod full_disk;
@@ -15,14 +11,6 @@ mod job_files;
 #[cfg(test)]
 mod large_carry;
 #[cfg(test)]
-mod large_kinds;
-#[cfg(test)]
 mod large_lists;
-#[cfg(test)]
-mod mirrored_files;
-#[cfg(test)]
-mod program;
-#[cfg(test)]
-mod standard_streams;
 #[cfg(test)]
 mod stopped_runs;

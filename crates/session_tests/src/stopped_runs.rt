@@ -1,12 +1,12 @@
 //! Runs that stop or that find their disks taken, and the run after them.
 
-use crate::calling::{REVERSED, loaded, said, stored};
 use bm_filerack::FileRack;
 use file_helpers::{Notes, Watched, enter_empty_folder};
+use session_helpers::{REVERSED, loaded, said, stored};
 use std::test::Fail;
 
-/// A run is stopped at a call on its files, from the first one to one past its end: another run
-/// goes on, and its output is that of a run that was not stopped.
+// A run is stopped at a call on its files, from the first one to one past its end: another run
+// goes on, and its output is that of a run that was not stopped.
 #[test]
 fn a_run_that_was_stopped_goes_on(rt: HostRuntime) -> Result<(), Fail> {
     enter_empty_folder(&rt, "a_run_that_was_stopped_goes_on")?;
@@ -35,7 +35,7 @@ fn a_run_that_was_stopped_goes_on(rt: HostRuntime) -> Result<(), Fail> {
     Ok(())
 }
 
-/// While a rack has the files, the run of another is a fault of its disks and touches nothing.
+// While a rack has the files, the run of another is a fault of its disks and touches nothing.
 #[test]
 fn two_runs_do_not_mix(rt: HostRuntime) -> Result<(), Fail> {
     enter_empty_folder(&rt, "two_runs_do_not_mix")?;

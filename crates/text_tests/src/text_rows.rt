@@ -7,7 +7,7 @@ use bm_named::{bit_reversal, from_rows};
 use bm_text::{write_drill, write_job, write_line, write_report, write_status};
 use std::test::Fail;
 
-/// The job text of the list 0 1 3 2.
+// The job text of the list 0 1 3 2.
 #[test]
 fn job_text(rt: HostRuntime) -> Result<(), Fail> {
     let mut sink = MemSink::new(rt.alloc(), 256, 7, Vec::new(rt.alloc())).map_err(|_| "memory")?;
@@ -22,7 +22,7 @@ fn job_text(rt: HostRuntime) -> Result<(), Fail> {
     Ok(())
 }
 
-/// The short texts, over a sink that takes a few bytes at a time.
+// The short texts, over a sink that takes a few bytes at a time.
 #[test]
 fn short_texts(rt: HostRuntime) -> Result<(), Fail> {
     let mut sink = MemSink::new(rt.alloc(), 256, 3, Vec::new(rt.alloc())).map_err(|_| "memory")?;
@@ -55,7 +55,7 @@ fn short_texts(rt: HostRuntime) -> Result<(), Fail> {
     Ok(())
 }
 
-/// A sink without room has a front of the text.
+// A sink without room has a front of the text.
 #[test]
 fn front_of_a_text(rt: HostRuntime) -> Result<(), Fail> {
     let mut sink = MemSink::new(rt.alloc(), 9, 7, Vec::new(rt.alloc())).map_err(|_| "memory")?;

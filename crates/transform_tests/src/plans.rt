@@ -31,7 +31,7 @@ const ROWS: [Row; 3] = [
     },
 ];
 
-/// The passes of a plan and their butterflies, and the number that is said without making it.
+// The passes of a plan and their butterflies, and the number that is said without making it.
 #[test]
 fn passes_of_the_transform(rt: HostRuntime) -> Result<(), Fail> {
     for row in ROWS {
@@ -48,7 +48,7 @@ fn passes_of_the_transform(rt: HostRuntime) -> Result<(), Fail> {
     Ok(())
 }
 
-/// Records that are no numbers of 8 bytes have no transform.
+// Records that are no numbers of 8 bytes have no transform.
 #[test]
 fn other_widths_are_refused(rt: HostRuntime) -> Result<(), Fail> {
     for width in [1, 4, 16] {
@@ -59,7 +59,7 @@ fn other_widths_are_refused(rt: HostRuntime) -> Result<(), Fail> {
     Ok(())
 }
 
-/// The texts of the planners' errors.
+// The texts of the planners' errors.
 #[test]
 fn errors_have_texts(rt: HostRuntime) -> Result<(), Fail> {
     let alloc = rt.alloc();

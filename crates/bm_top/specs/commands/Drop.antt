@@ -5,8 +5,8 @@ use Rattle.bm_base.specs.Shape.{dims_of}
 use Rattle.bm_rack.specs.RackView.{IsClean}
 use Rattle.bm_rack.specs.Calls.{IsPage}
 use Rattle.bm_rack.specs.Image.{SameInput}
+use Rattle.bm_rack.specs.Frames.{SameDisks}
 use Rattle.bm_control.specs.Pages.{job_gate, HasOpenJob, HasClosedJob}
-use Rattle.bm_top.specs.Disks.{SameDisks}
 use Rattle.bm_top.specs.Exits.{KeepsUnits}
 use Rattle.bm_top.specs.Moment.{Devices, Tells}
 use Rattle.bm_top.specs.Status.{IsBeforeDisks, IsOfSlate}

@@ -1,8 +1,8 @@
 -- The command `new`: it makes the disks of the shape.
 use Rattle.std.specs.Prelude.{◌≡◌, ◌≢◌, IsTrue, None}
 use Rattle.bm_base.specs.Shape.{dims_of}
-use Rattle.bm_top.specs.Disks.{SameDisks, NewDisks}
-use Rattle.bm_top.specs.Exits.{SameCalls}
+use Rattle.bm_rack.specs.Frames.{SameCalls, SameDisks}
+use Rattle.bm_top.specs.Disks.{NewDisks}
 use Rattle.bm_top.specs.Moment.{Devices, Tells}
 use Rattle.bm_top.specs.declared.task.Task.{Task}
 use Rattle.bm_top.specs.declared.status.Status.{Status}

@@ -15,13 +15,13 @@ use Rattle.bm_forms.specs.PassLimit.{limit_of}
 use Rattle.bm_rack.specs.RackView.{RackView}
 use Rattle.bm_rack.specs.Image.{SameInput, InEveryImage}
 use Rattle.bm_rack.specs.Sink.{AppendsFront}
+use Rattle.bm_rack.specs.Frames.{SameCalls, SameDisks}
 use Rattle.bm_control.specs.Pages.{HasOpenJob}
 use Rattle.bm_control.specs.Sound.{IsSound}
 use Rattle.bm_job.specs.Runs.{most_pages, most_syncs, CallsFew, ReportFits, IsReportOf, RunDone, RunFailed, RunCalls, KeepsJobs}
 use Rattle.bm_job.specs.Runs.{KeepsOpenJob, MovesFew, SameContents, IsRunnable, IsRunUnit}
 use Rattle.bm_text.specs.ReportText.{report_text}
-use Rattle.bm_top.specs.Disks.{SameDisks}
-use Rattle.bm_top.specs.Exits.{SameCalls, KeepsUnits}
+use Rattle.bm_top.specs.Exits.{KeepsUnits}
 use Rattle.bm_top.specs.Moment.{Devices, Tells, TellsRack}
 use Rattle.bm_top.specs.Status.{IsBeforeDisks, IsOfSlate}
 use Rattle.bm_top.specs.declared.task.Task.{Task}
@@ -78,8 +78,8 @@ pub record RunCut (t : Tells) (task : Task) (old new : Devices) : Type 0 where
   pub text : IsTrue t.out → AppendsFront old.out.taken new.out.taken (report_text run.report (bound_of task))
 
 -- every unit that a run does not write: the first two pages and the area of the input are among them
-abbrev pub IsLoadUnit : Task → RackUnit → Type 0
-IsLoadUnit task u = ¬ IsRunUnit task.shape u
+abbrev pub IsNoRunUnit : Task → RackUnit → Type 0
+IsNoRunUnit task u = ¬ IsRunUnit task.shape u
 
 -- Of one session, from a sound rack: what jobs images have open at its end, and, where the rack fails, that its row calls are paid for by
 -- progress that no stop loses, but for those of `every` loads.
@@ -98,7 +98,7 @@ pub record NoSession (old new : RackView) : Type 0 where
 -- calls and syncs are made than their bounds, on every rack.
 pub record RunLeaves (t : Tells) (task : Task) (old : Devices) (answer : Status) (new : Devices) : Type 0 where
   pub same : SameInput (dims_of task.shape) old.rack new.rack
-  pub load : KeepsUnits (IsLoadUnit task) old.rack new.rack
+  pub load : KeepsUnits (IsNoRunUnit task) old.rack new.rack
   pub most : MovesFew (bound_of task) old.rack new.rack
   pub calls : CallsFew (most_pages task.shape task.job) (most_syncs task.shape task.job) old.rack new.rack
   pub session : NoSession old.rack new.rack

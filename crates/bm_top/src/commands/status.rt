@@ -15,7 +15,7 @@ use bm_disks::open_job;
 use bm_rack::{Rack, Sink};
 use bm_text::write_status;
 
-// `run_status` of disks that are attached.
+// `tell_status` of disks that are attached.
 fn status_attached<R: Rack, K: Sink>(task: &Task, out: &mut K, rack: &mut R) -> Status
     requires { (R.view rack.old).attached ≡ Some (dims_of task.now.shape) }
     ensures { (t : Tells) (d : Devices) (before : RackView) → AttachedFrom before (R.view rack.old)
@@ -35,7 +35,7 @@ fn status_attached<R: Rack, K: Sink>(task: &Task, out: &mut K, rack: &mut R) -> 
 }
 
 /// Writes how many passes of the open job are done.
-pub fn run_status<R: Rack, K: Sink>(task: &Task, out: &mut K, rack: &mut R) -> Status
+pub fn tell_status<R: Rack, K: Sink>(task: &Task, out: &mut K, rack: &mut R) -> Status
     ensures { (t : Tells) (d : Devices) → TaskCall
         (record t { out = K.tells; stands = R.tells_stands; contents = R.tells_contents })
         Verb.Status task.now

@@ -4,15 +4,16 @@ use Rattle.std.proofs.lemmas.List.{length-map, append-nil}
 use Rattle.bm_base.specs.Area.{area_after}
 use Rattle.bm_base.specs.Records.{bytes_of}
 use Rattle.bm_base.specs.Shape.{stripes}
+use Rattle.bm_base.proofs.CountLemmas.{rose_earlier}
 use Rattle.bm_disks.proofs.DumpLemmas.{AppendsFront-before}
-use Rattle.bm_job.proofs.FaultLemmas.{rose_earlier}
 use Rattle.bm_rack.specs.RackView.{RackView}
 use Rattle.bm_top.specs.Moment.{sink_of}
+use Rattle.bm_batch.proofs.BatchLemmas.{element_of}
 use Rattle.bm_batch_call.specs.Dumping.{IsDumpedTo, IsLooked, last_areas, passes_at}
 use Rattle.bm_batch_call.specs.Moment.{no_view}
 use Rattle.bm_batch_call.proofs.DumpLemmas.{dumped_none, dumped_next, dumped_front, looked_each, failed_at}
 use Rattle.bm_batch_call.proofs.RowLemmas.{few_raised}
-use Rattle.bm_batch_call.proofs.ListLemmas.{element, own_before, below_now, same_count}
+use Rattle.bm_batch_call.proofs.ListLemmas.{own_before, below_now, same_count}
 use Rattle.bm_batch_call.proofs.dumping.dump_bays.Goals as goal
 
 pub loop-bay-init : goal.loop-bay-init
@@ -27,7 +28,7 @@ dump_records-requires-clause-attached g c =
     let at : c.from.result ≡ c.loop-bay.bay = c.from.ensures in
     let slot : c.loop-bay.bay < length c.args.batch.now.slots =
     (let a = c.loop-bay-test.true in let b = c.count-bay-end.ensures.count in omega (arith, a, b)) in
-    let d = element c.args.batch.now.slots c.loop-bay.bay slot in
+    let d = element_of c.args.batch.now.slots c.loop-bay.bay slot in
     let dumped = subst (λ (n : ℕ). IsDumpedTo g.K.Sink.tells g.Y.Rack.tells_contents c.args.shape.now (passes_at c.args.batch.now.slots d) n
     (sink_of (g.K.Sink.taken c.args.out.now) (g.K.Sink.faults c.args.out.now)) (map g.Y.Rack.view c.args.bays.now)
     (sink_of (g.K.Sink.taken c.loop-bay.out) (g.K.Sink.faults c.loop-bay.out)) (map g.Y.Rack.view c.loop-bay.bays)) (sym at)

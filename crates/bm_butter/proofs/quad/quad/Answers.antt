@@ -20,8 +20,8 @@ returns-clause-group g c =
     let new = c.set_number-4.new.buf in
     let xs : ℕ → List ℕ = λ k. record_in_order c.args.buf.now (pick p q r s k) in
     let rounds = BothRounds-made f xs c.pair-above.result c.pair-below.result (g.met.K.Kernel.keeps c.args.kernel.now)
-    (c.pair-above.ensures ∙ same_pair f c.number_at.ensures c.number_at-2.ensures)
-    (c.pair-below.ensures ∙ same_pair f c.number_at-3.ensures c.number_at-4.ensures) in
+    (c.pair-above.ensures ∙ same_pair f c.number_at.ensures.word c.number_at-2.ensures.word)
+    (c.pair-below.ensures ∙ same_pair f c.number_at-3.ensures.word c.number_at-4.ensures.word) in
     let above = ap (λ (t : ℕ × ℕ). record_of t.0) c.pair-at_p.ensures in
     by_four (λ t. record_in_order new (pick p q r s t) ≡ kernel_digits f 2 xs t)
     (c.set_number-4.ensures.others p apart.p_s ∙ c.set_number-3.ensures.others p apart.p_r ∙ c.set_number-2.ensures.others p apart.p_q

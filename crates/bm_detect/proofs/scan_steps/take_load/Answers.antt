@@ -8,7 +8,7 @@ returns-then-y-n-clause-knows c ys same knows =
     let bound : 1 * 2 ^ c.args.n % 2 ^ 64 ≡ 2 ^ c.args.n = one_shl c.args.n 64 (omega (arith, c.requires.few)) in
     record {
       inside = omega (arith, c.loop-i-test.true, c.requires.addresses);
-      number = c.number_at-y.ensures ∙ same c.loop-i.i c.loop-i-test.true;
+      number = c.number_at-y.ensures.number ∙ same c.loop-i.i c.loop-i-test.true;
       large = subst (λ (b : ℕ). b ≤ c.number_at-y.result) bound c.if-y-n.true;
       before = (c.loop-i.invariant.knows ys same knows).addresses;
     }
@@ -21,7 +21,7 @@ loop-i-preserved c =
       scan = c.take_number-scan.ensures.scan;
       knows = λ ys same knows. subst (λ (seen : ℕ). Knows c.args.n ys seen c.take_number-scan.result)
           (let e : from + i + 1 ≡ from + (i + 1) = omega arith in e)
-          (c.take_number-scan.ensures.knows ys (sym (c.number_at-y.ensures ∙ same i c.loop-i-test.true))
+          (c.take_number-scan.ensures.knows ys (sym (c.number_at-y.ensures.number ∙ same i c.loop-i-test.true))
           (c.loop-i.invariant.knows ys same knows));
     }
 

@@ -12,8 +12,8 @@ use Rattle.bm_rack.proofs.FrameLemmas.{Keeps-trans, ChangesOnly-trans, ChangesOn
 use Rattle.bm_stripe.specs.Units.{IsAreaUnit}
 use Rattle.bm_kinds.specs.OnBits.{word, kernel_over}
 use Rattle.bm_kinds.proofs.KindLemmas.{kernel_over-kind}
-use Rattle.bm_kindjob.specs.KindRun.{IsWorkUnit}
-use Rattle.bm_kindjob.proofs.RunLemmas.{IsWorkUnit-target, left_first, left_more, run_none, run_more, run_whole, rows_so_far}
+use Rattle.bm_kindjob.specs.KindRun.{IsWorkBlock}
+use Rattle.bm_kindjob.proofs.RunLemmas.{IsWorkBlock-target, left_first, left_more, run_none, run_more, run_whole, rows_so_far}
 use Rattle.bm_kindjob.proofs.SoundLemmas.{sound_work}
 use Rattle.bm_kindjob.proofs.runs.run_kind.Goals as goal
 
@@ -50,18 +50,18 @@ pub returns-in_err-kind_pass-clause-only : goal.returns-in_err-kind_pass-clause-
 returns-in_err-kind_pass-clause-only g c =
     let s = c.args.shape.now in
     let to = c.area_of-in-loop-i.result in
-    ChangesOnly-trans (IsWorkUnit s) _ _ _ c.loop-i.invariant.only
-    (ChangesOnly-wider (IsAreaUnit s to) (IsWorkUnit s) _ _
-    (λ u is. IsWorkUnit-target s c.loop-i.i u (subst (λ a. IsAreaUnit s a u) c.area_of-in-loop-i.ensures is)) c.kind_pass.ensures.only)
+    ChangesOnly-trans (IsWorkBlock s) _ _ _ c.loop-i.invariant.only
+    (ChangesOnly-wider (IsAreaUnit s to) (IsWorkBlock s) _ _
+    (λ u is. IsWorkBlock-target s c.loop-i.i u (subst (λ a. IsAreaUnit s a u) c.area_of-in-loop-i.ensures is)) c.kind_pass.ensures.only)
 
 pub returns-in_err-kind_pass-clause-sound : goal.returns-in_err-kind_pass-clause-sound
 returns-in_err-kind_pass-clause-sound g c told_stands told closed sound =
     let s = c.args.shape.now in
     let to = c.area_of-in-loop-i.result in
     sound_work s _ _ _ _ told_stands told (g.met.R.Rack.consistent c.args.rack.now) c.requires.attached
-    (ChangesOnly-trans (IsWorkUnit s) _ _ _ c.loop-i.invariant.only
-    (ChangesOnly-wider (IsAreaUnit s to) (IsWorkUnit s) _ _
-    (λ u is. IsWorkUnit-target s c.loop-i.i u (subst (λ a. IsAreaUnit s a u) c.area_of-in-loop-i.ensures is)) c.kind_pass.ensures.only))
+    (ChangesOnly-trans (IsWorkBlock s) _ _ _ c.loop-i.invariant.only
+    (ChangesOnly-wider (IsAreaUnit s to) (IsWorkBlock s) _ _
+    (λ u is. IsWorkBlock-target s c.loop-i.i u (subst (λ a. IsAreaUnit s a u) c.area_of-in-loop-i.ensures is)) c.kind_pass.ensures.only))
     closed sound
 
 pub returns-clause-sound : goal.returns-clause-sound
@@ -96,9 +96,9 @@ loop-i-preserved g c =
     let after = g.R.Rack.view c.kind_pass.new.rack in
     let inside : i < length forms = subst (λ k. i < k) c.len-i-end.ensures.count c.loop-i-test.true in
     record {
-      only = ChangesOnly-trans (IsWorkUnit s) _ _ _ inv.only
-          (ChangesOnly-wider (IsAreaUnit s to) (IsWorkUnit s) _ _
-          (λ u is. IsWorkUnit-target s i u (subst (λ a. IsAreaUnit s a u) c.area_of-in-loop-i.ensures is)) c.kind_pass.ensures.only);
+      only = ChangesOnly-trans (IsWorkBlock s) _ _ _ inv.only
+          (ChangesOnly-wider (IsAreaUnit s to) (IsWorkBlock s) _ _
+          (λ u is. IsWorkBlock-target s i u (subst (λ a. IsAreaUnit s a u) c.area_of-in-loop-i.ensures is)) c.kind_pass.ensures.only);
       moved = MovesRows-next rows i _ _ _ _ refl inv.moved c.in_ok-kind_pass.ensures.moved;
       keeps = Keeps-trans _ _ _ inv.keeps c.kind_pass.ensures.keeps;
       fits = c.kind_pass.ensures.fits;

@@ -6,7 +6,7 @@ use Rattle.bm_base.specs.Records.{SameRecords, record_at}
 use Rattle.bm_bufs.specs.Bufs.{FitsShape}
 use Rattle.bm_rack.specs.Frames.{Keeps, MovesRows, ChangesOnly}
 use Rattle.bm_kindjob.specs.KindPasses.{kinds_passed}
-use Rattle.bm_kindjob.specs.KindRun.{IsWorkUnit}
+use Rattle.bm_kindjob.specs.KindRun.{IsWorkBlock}
 use Rattle.bm_kindjob.proofs.KindRoundLemmas.{bits_passed}
 use Rattle.bm_kindjob.proofs.runs.run_kind.Given as goal
 
@@ -16,7 +16,7 @@ invariant-loop-i g l =
     let f = g.K.Kernel.meaning l.kernel in
     let s = l.shape in
     record {
-      only : ChangesOnly (IsWorkUnit s) (view l.fn.rack) (view l.rack);
+      only : ChangesOnly (IsWorkBlock s) (view l.fn.rack) (view l.rack);
       moved : MovesRows (l.i * (2 * stripes s)) (Unit {0}) (view l.fn.rack) (view l.rack);
       keeps : Keeps (view l.fn.rack) (view l.rack);
       fits : FitsShape s l.bufs;

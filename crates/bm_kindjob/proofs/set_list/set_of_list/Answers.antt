@@ -8,4 +8,4 @@ loop-j-init c = HasSet-none c.args.n (slice_index c.args.list.now)
 pub loop-j-preserved : goal.loop-j-preserved
 loop-j-preserved c =
     HasSet-more c.args.n c.loop-j.j c.loop-j.set (slice_index c.args.list.now) c.requires c.loop-j.invariant
-    (omega (arith, c.if-bit-n.false)) c.in_default.ensures
+    (omega (arith, c.if-bit-n.false)) c.in_default.ensures.none

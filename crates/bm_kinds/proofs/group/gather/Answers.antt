@@ -32,6 +32,6 @@ loop-t-preserved g c =
       long = length-set c.loop-t.numbers _ _ ∙ inv.long;
       numbers = written_more c.loop-t.numbers c.loop-t.t c.number_at.result (λ s v. v ≡ word (record_in_order c.args.buf.now
           (place s)))
-          (omega (arith, inv.end, inv.long, few_numbers g.row.T c.requires.few)) inv.numbers c.number_at.ensures;
+          (omega (arith, inv.end, inv.long, few_numbers g.row.T c.requires.few)) inv.numbers c.number_at.ensures.word;
       end = inv.end;
     }

@@ -5,9 +5,9 @@ use Rattle.bm_mirror.specs.TwoSides.{two_sides}
 use Rattle.bm_rack.specs.Sink.{AppendsFront}
 use Rattle.bm_top.specs.Moment.{source_of, sink_of}
 use Rattle.bm_top.specs.StatusWords.{line_of}
-use Rattle.bm_mirror_call.specs.MirrorCall.{MirrorCall, last_line}
+use Rattle.bm_mirror_call.specs.MirrorCall.{CommandCall, last_line}
 use Rattle.bm_mirror_call.specs.Seen.{MirrorSeen, mirror_devices, mirror_moment, mirror_seen, new_mirror, sides_tell, tells_over}
-use Rattle.bm_mirror_call.specs.Sides.{IsFresh}
+use Rattle.bm_mirror_call.specs.Sides.{IsNewMirror}
 use Rattle.bm_mirror_call.specs.SidesLine.{sides_line}
 use Rattle.bm_mirror_call.proofs.CallLemmas.{fresh_is, new_is, only_is, top_call, top_none}
 use Rattle.bm_mirror_call.proofs.LineLemmas.{last_is, lines_fronts}
@@ -33,7 +33,7 @@ run_command-status-requires-clause-fresh g c =
     c.new-mirror.ensures.fresh.0 c.new-mirror.ensures.fresh.1
     c.new-mirror.ensures.counts.0 c.new-mirror.ensures.attached c.new-mirror.ensures.counts.1 c.new-mirror.ensures.counts.2
     c.new-mirror.ensures.counts.3 in
-    subst IsFresh (sym is) (fresh_is st (g.L.Rack.view c.args.left) (g.G.Rack.view c.args.right) c.in-Some.spelled.first)
+    subst IsNewMirror (sym is) (fresh_is st (g.L.Rack.view c.args.left) (g.G.Rack.view c.args.right) c.in-Some.spelled.first)
 
 pub returns-in-Some-clause-call : goal.returns-in-Some-clause-call
 returns-in-Some-clause-call g c =
@@ -65,7 +65,7 @@ returns-in-Some-clause-call g c =
     top_call t c.args.words.now c.in-Some.spelled.first c.in-Some.spelled.command
     (λ first. mirror_moment job (mirror_devices input out (new_mirror st (g.L.Rack.view c.args.left) (g.G.Rack.view c.args.right) first)))
     c.run_command-status.result new c.in-Some.ensures.found
-    (subst (λ (x : MirrorSeen). MirrorCall t c.in-Some.spelled.command (mirror_moment job (mirror_devices input out x))
+    (subst (λ (x : MirrorSeen). CommandCall t c.in-Some.spelled.command (mirror_moment job (mirror_devices input out x))
     c.run_command-status.result new) is c.run_command-status.ensures.call)
 
 pub returns-in-Some-clause-front : goal.returns-in-Some-clause-front

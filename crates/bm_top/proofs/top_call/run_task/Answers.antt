@@ -32,7 +32,7 @@ returns-in-Run g c = λ told.
 pub returns-in-Status : goal.returns-in-Status
 returns-in-Status g c = λ told.
     rw c.in-Status.is
-    (c.run_status.ensures (tells_of told g.S.Source.tells g.K.Sink.tells g.R.Rack.tells_stands g.R.Rack.tells_contents)
+    (c.tell_status.ensures (tells_of told g.S.Source.tells g.K.Sink.tells g.R.Rack.tells_stands g.R.Rack.tells_contents)
     (devices_of (source_of (g.S.Source.left c.args.input.now) (g.S.Source.faults c.args.input.now))
     (sink_of (g.K.Sink.taken c.args.out.now) (g.K.Sink.faults c.args.out.now)) (g.R.Rack.view c.args.rack.now)))
 

@@ -1,0 +1,34 @@
+//! Words of a line, and texts of jobs.
+
+use std::alloc::{AllocError, Global};
+
+/// The bit reversal of sixteen records of a byte, eight in memory, on two disks in blocks of two.
+pub const REVERSAL: &str =
+    "[shape]\nn = 4\nb = 1\nd = 1\nm = 3\nwidth = 1\n[map]\nkind = \"bit-reversal\"\n";
+
+/// The Gray code on the same disks.
+pub const GRAY: &str = "[shape]\nn = 4\nb = 1\nd = 1\nm = 3\nwidth = 1\n[map]\nkind = \"gray\"\n";
+
+/// The bit reversal on one disk.
+pub const ONE_DISK: &str =
+    "[shape]\nn = 4\nb = 1\nd = 0\nm = 2\nwidth = 1\n[map]\nkind = \"bit-reversal\"\n";
+
+/// The words of a line, which stand one space apart.
+pub fn words_of(alloc: Global, line: &str) -> Result<Vec<String>, AllocError> {
+    let mut words = Vec::new(alloc);
+    for word in line.split(' ') {
+        words.push(String::from_str(alloc, word)?)?;
+    }
+    Ok(words)
+}
+
+/// A job text with these lines in the tables of its shape and of its map. Nothing where memory is
+/// refused.
+pub fn text_with(alloc: Global, shape: &str, map: &str) -> Option<String> {
+    let mut text = String::new(alloc);
+    text.push_str("[shape]\n").ok()?;
+    text.push_str(shape).ok()?;
+    text.push_str("\n[map]\n").ok()?;
+    text.push_str(map).ok()?;
+    Some(text)
+}
