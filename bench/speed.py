@@ -5,8 +5,9 @@
 
 builds crates/bm_speed by `rt run` and bench/loops.rs by `rustc -O`, and runs both in turn so many
 times (3 where no number is given). The least processor time of each move goes as tables to
-bench/results/speed.md, and a dozen rows of them are printed for docs/PERFORMANCE.md. It ends with
-status 1 where the two programs do not print the same checksums.
+bench/results/speed.md, and some rows of them are printed: those of the table of
+docs/PERFORMANCE.md, and four of other kernels. It ends with status 1 where the two programs do not
+print the same checksums.
 """
 
 import contextlib
@@ -36,7 +37,8 @@ RUST_FORMS = {
     "pass": ("pass", "pass-stepped"),
 }
 
-# The rows of docs/PERFORMANCE.md: moves, and the MiB of a load.
+# The rows that are printed: moves, and the MiB of a load. docs/PERFORMANCE.md has all but those of
+# sums and differences.
 ROWS = [
     ("copy", "identity", 1, 64),
     ("two-step", "identity", 16, 64),
@@ -176,7 +178,7 @@ def print_results(best):
 
 
 def chosen_rows(best):
-    """The rows of docs/PERFORMANCE.md."""
+    """The rows that are printed."""
     for act, name, width, mib in ROWS:
         for move, ours in best[OURS].items():
             if move[:4] == (act, name, width, mib << 10):
