@@ -78,19 +78,19 @@ STATUSES: dict[int, Status] = {
         "rack fault",
         "a disk or the control file failed, or another program has the disks",
         "look at the disks (full, rights, cables; a file system without file locks can't hold `bmmc-slate`), wait for the other "
-        "program, then give the same command again: `run` goes on from the progress that is durable. After `carry` go on with "
-        "`load` where `status` says `not loaded`, else with `run` and `dump`",
+        "program, then give the same command again: `run` goes on from the progress that is durable. After `carry` ask `status`: "
+        "`no disks` and `wrong dims` as these rows say, after `not loaded` `load`, else `run` and `dump`",
     ),
     12: Status(
         "no disks",
         "no disks stand in the folder",
-        "`new` first, or the right folder",
+        "`new` or `carry` first, or the right folder",
     ),
     13: Status(
         "wrong dims",
         "other disks stand: another number of them or other lengths, one that is missing, a folder or a device in a file's place, "
-        "or files that a killed `new` left",
-        "the job with which they were made; else remove `bmmc-slate` and `bmmc-disk-*` and begin with `new`",
+        "or files that a `new` or `carry` left that was stopped while it made them",
+        "the job with which they were made; else remove `bmmc-slate` and `bmmc-disk-*` and begin anew",
     ),
     14: Status(
         "disks exist",
