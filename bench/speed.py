@@ -41,17 +41,14 @@ RUST_FORMS = {
 # sums and differences.
 ROWS = [
     ("copy", "identity", 1, 64),
-    ("two-step", "identity", 16, 64),
     ("two-step", "gray", 1, 64),
     ("two-step", "bit-reversal", 8, 64),
     ("two-step", "random", 8, 64),
     ("two-step", "leading-identity", 8, 64),
     ("two-step", "32-streams", 1, 64),
     ("two-step", "32-streams", 8, 64),
-    ("two-step", "256-streams", 4, 64),
     ("two-step", "256-streams", 8, 64),
     ("two-step", "morton", 8, 64),
-    ("butterflies", "identity", 8, 16),
     ("butterflies", "identity", 8, 64),
     ("sums", "identity", 8, 64),
     ("differences", "identity", 8, 64),
