@@ -9,6 +9,7 @@ use Rattle.bm_mirror.specs.declared.sides.Side.TheVariants.{Left, Right}
 use Rattle.bm_mirror.specs.declared.sides.Sides.{Sides}
 use Rattle.bm_mirror.specs.Lasting.{History}
 use Rattle.bm_mirror.specs.TwoSides.{TwoSides}
+use Rattle.bm_control.specs.Sound.{IsSound}
 use Rattle.bm_top.specs.Causes.{Attaches}
 use Rattle.bm_top.specs.JobRead.{JobRead}
 use Rattle.bm_top.specs.Moment.{Tells, moment_of, source_of}
@@ -31,6 +32,7 @@ use Rattle.bm_mirror_call.specs.Sides.{IsNewMirror, SidesOf}
 use Rattle.bm_mirror_call.specs.Words.{IsMirrorCommand, IsNoMirrorCommand}
 use Rattle.bm_mirror_call.proofs.CommandLemmas.{heard, carried_out}
 use Rattle.bm_mirror_call.proofs.SeenLemmas.{IsSeen}
+use Rattle.bm_mirror_call.proofs.SoundLemmas.{text_sound}
 use Rattle.bm_mirror_call.proofs.TextLemmas.{read_of_text}
 use Rattle.bm_mirror_call.proofs.WordLemmas.{one_command, one_side}
 
@@ -59,6 +61,7 @@ job_made t verb text old answer new same short end low call sides = record {
     accepted = λ file told means takes calm. not_refused verb t.job old.job answer new.job file source told means takes calm;
   };
   sides = sides;
+  sound = λ tell calm. text_sound t verb text old.devices answer new.devices call tell calm;
 }
   where
     held : IsTrue t.job → length old.job.left ≤ 65536
@@ -83,6 +86,7 @@ job_refused t verb old answer new before same read sides = record {
     accepted = λ file told means takes calm. not_refused verb t.job old.job answer new.job file read told means takes calm;
   };
   sides = sides;
+  sound = λ tell calm. subst (λ (d : MirrorDevices). IsSound d.mirror.rack) (sym same) calm;
 }
 
 -- ---- its text

@@ -24,6 +24,7 @@ use Rattle.bm_mirror_call.specs.Sides.{IsNewMirror, SidesAfter}
 use Rattle.bm_mirror_call.proofs.CommandLemmas.{risen, done_cause, fault_cause}
 use Rattle.bm_mirror_call.proofs.SeenLemmas.{IsSeen, nothing_stands}
 use Rattle.bm_mirror_call.proofs.SidesLemmas.{lasts, both_made, sides_after}
+use Rattle.bm_mirror_call.proofs.SoundLemmas.{flip_sound}
 use Rattle.bm_mirror_call.proofs.VerbLemmas.{made_where}
 
 -- ---- the sides
@@ -90,4 +91,5 @@ flip_made t words c f old answer new is spelled seen_a seen_b fresh top =
       call = call;
       sides = flip_sides t f answer old.devices.mirror new.devices.mirror old.job new.job old.devices.input new.devices.input
           old.devices.out new.devices.out seen_a seen_b fresh call;
+      sound = flip_sound t f (moment_of old.job (devices_seen old.devices)) answer (moment_of new.job (devices_seen new.devices)) call;
     })

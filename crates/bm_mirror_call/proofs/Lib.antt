@@ -5,6 +5,7 @@ pub mod SeenLemmas
 pub mod SidesLemmas
 pub mod VerbLemmas
 pub mod CommandLemmas
+pub mod SoundLemmas
 pub mod FlipLemmas
 pub mod CallLemmas
 pub mod LineLemmas

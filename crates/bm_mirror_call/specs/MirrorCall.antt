@@ -8,9 +8,10 @@ use Rattle.bm_mirror.specs.declared.sides.Side.{Side}
 use Rattle.bm_mirror.specs.declared.sides.Side.TheVariants.{Left}
 use Rattle.bm_mirror.specs.declared.sides.Sides.{Sides}
 use Rattle.bm_rack.specs.RackView.{RackView}
+use Rattle.bm_control.specs.Sound.{IsSound}
 use Rattle.bm_top.specs.Causes.{Attaches}
 use Rattle.bm_top.specs.JobRead.{JobRead, TakesShape}
-use Rattle.bm_top.specs.Moment.{Tells, source_of, moment_of}
+use Rattle.bm_top.specs.Moment.{Tells, TellsRack, source_of, moment_of}
 use Rattle.bm_top.specs.Status.{IsBeforeTask, RefusesJob}
 use Rattle.bm_top.specs.TopCall.{JobCall, FlipCall}
 use Rattle.bm_top.specs.declared.words.Command.{Command}
@@ -69,6 +70,8 @@ pub record CommandCall (t : Tells) (c : Command) (old : MirrorMoment) (answer : 
   pub answered : answer ≢ Usage
   pub call : call_of t c old answer new
   pub sides : SidesOf t c old.devices answer new.devices
+  -- this follows from `call`, as without a mirror: one that is sound before it is made ready is sound at each exit
+  pub sound : TellsRack t → IsSound old.devices.mirror.rack → IsSound new.devices.mirror.rack
 
 -- All but the lines. The call starts from a new mirror with this side first; where the words are none of a mirror, that is left, and it is
 -- handed back.
