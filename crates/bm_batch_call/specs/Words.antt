@@ -10,6 +10,10 @@ abbrev pub batch_word : BatchVerb → List ℕ
 batch_word Batch = codes "batch"
 batch_word Run = codes "batch-run"
 
+-- a word that is one of these
+abbrev pub BeginsBatch : List ℕ → Type 0
+BeginsBatch word = (verb : BatchVerb) × (word ≡ batch_word verb)
+
 -- the words are this one, a seed in decimal, and 1 to 64 words that name jobs
 pub record IsBatchWords (words : List (String Global)) (verb : BatchVerb) (seed : ℕ) (jobs : List (List ℕ)) : Type 0 where
   pub words_are : texts_of words ≡ batch_word verb ∷ decimal seed ∷ jobs

@@ -15,4 +15,4 @@ mod tasks;
 mod words;
 
 pub use batch_call::batch_top;
-pub use words::batch_jobs;
+pub use words::{batch_jobs, begins_batch};

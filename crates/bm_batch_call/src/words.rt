@@ -1,8 +1,8 @@
 //! The words of a batch.
 
-ghost use Rattle.std.specs.Prelude.{◌≡◌, ◌≢◌, ℕ, IfSome, IfNone, length, drop};
+ghost use Rattle.std.specs.Prelude.{◌≡◌, ◌≢◌, ◌↔◌, ℕ, IsTrue, IfSome, IfNone, length, drop};
 ghost use Rattle.bm_top.specs.Words.{texts_of};
-ghost use Rattle.bm_batch_call.specs.Words.{AreEnough, IsBatchWords, IsNoBatch, batch_word};
+ghost use Rattle.bm_batch_call.specs.Words.{AreEnough, BeginsBatch, IsBatchWords, IsNoBatch, batch_word};
 
 use bm_top::word_number;
 
@@ -37,6 +37,13 @@ fn verb_of(word: &str) -> Option<BatchVerb>
         "batch-run" => Some(BatchVerb::Run),
         _ => None,
     }
+}
+
+/// Whether a word is the first one of a batch, `batch` or `batch-run`.
+pub fn begins_batch(word: &str) -> bool
+    ensures { IsTrue result ↔ BeginsBatch word.now }
+{
+    verb_of(word).is_some()
 }
 
 /// The batch that the words spell, or nothing where they are none.

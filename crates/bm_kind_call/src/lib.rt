@@ -8,4 +8,4 @@ mod text_reading;
 mod words;
 
 pub use kind_call::kind_top;
-pub use words::kind_job;
+pub use words::{is_kind_word, kind_job};

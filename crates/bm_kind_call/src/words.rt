@@ -1,11 +1,11 @@
 //! The words of the call.
 
-ghost use Rattle.std.specs.Prelude.{◌≡◌, codes, ◌↔◌, IsTrue, IfSome, IfNone};
-ghost use Rattle.bm_kind_call.specs.Words.{NamesKind, IsNoKind};
+ghost use Rattle.std.specs.Prelude.{◌≡◌, ◌↔◌, IsTrue, IfSome, IfNone};
+ghost use Rattle.bm_kind_call.specs.Words.{NamesKind, IsNoKind, kind_word};
 
-// Whether a word is that of the call.
-fn is_call(word: &str) -> bool
-    ensures { IsTrue result ↔ (word.now ≡ codes "kind") }
+/// Whether a word is the first one of the call, `kind`.
+pub fn is_kind_word(word: &str) -> bool
+    ensures { IsTrue result ↔ (word.now ≡ kind_word) }
 {
     word == "kind"
 }
@@ -17,7 +17,7 @@ pub fn kind_job(words: &[String]) -> Option<&str>
 {
     match words {
         [name, job] => {
-            if is_call(name.as_str()) {
+            if is_kind_word(name.as_str()) {
                 Some(job.as_str())
             } else {
                 None

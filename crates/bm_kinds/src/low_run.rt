@@ -39,7 +39,8 @@ pub fn on_low_run<K: Kernel>(kernel: &K, buf: &mut [u8], a: &Matrix, plus: u64, 
     set ^ ((1 << low) - 1)
 }
 
-/// Whether each bit of the set is one bit of the places.
+/// Whether each bit of the set is one bit of the places. The answer decides speed alone, so no
+/// clause tells it.
 pub fn are_lone(a: &Matrix, set: u64) -> bool {
     for i in 0..a.n {
         if (set >> i) & 1 == 1 && lone_bit(a, i).is_none() {

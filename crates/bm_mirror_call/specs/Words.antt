@@ -12,9 +12,13 @@ abbrev pub side_word : Side → List ℕ
 side_word Left = codes "left"
 side_word Right = codes "right"
 
+-- the first word of the call
+abbrev pub mirror_word : List ℕ
+mirror_word = codes "mirror"
+
 -- the first two words are those of a mirror whose first side is this
 abbrev pub NamesSide : List (String Global) → Side → Type 0
-NamesSide words side = texts_of (take 2 words) ≡ codes "mirror" ∷ side_word side ∷ []
+NamesSide words side = texts_of (take 2 words) ≡ mirror_word ∷ side_word side ∷ []
 
 -- the words are these, and those of a command
 pub record IsMirrorCommand (words : List (String Global)) (side : Side) (command : Command) : Type 0 where

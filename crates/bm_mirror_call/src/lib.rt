@@ -8,4 +8,4 @@ mod sides_line;
 mod words;
 
 pub use mirror_call::mirror_top;
-pub use words::mirror_job;
+pub use words::{is_mirror_word, mirror_job};

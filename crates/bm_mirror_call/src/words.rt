@@ -1,9 +1,10 @@
 //! The words of a command over a mirror.
 
-ghost use Rattle.std.specs.Prelude.{◌≡◌, ◌≢◌, IfSome, IfNone, drop};
+ghost use Rattle.std.specs.Prelude.{◌≡◌, ◌≢◌, ◌↔◌, IsTrue, IfSome, IfNone, drop};
 ghost use Rattle.bm_mirror.specs.declared.sides.Side.{Side};
 ghost use Rattle.bm_top.specs.declared.words.Verb.{Verb};
-ghost use Rattle.bm_mirror_call.specs.Words.{IsMirrorCommand, IsNoMirrorCommand, NamesMirrorJob, NamesSide, side_word};
+ghost use Rattle.bm_mirror_call.specs.Words.{IsMirrorCommand, IsNoMirrorCommand, NamesMirrorJob, NamesSide};
+ghost use Rattle.bm_mirror_call.specs.Words.{mirror_word, side_word};
 
 use bm_mirror::Side;
 use bm_top::{Command, command_of, job_word};
@@ -15,6 +16,13 @@ pub struct MirrorCommand {
     pub first: Side,
     /// What is done.
     pub command: Command,
+}
+
+/// Whether a word is the first one of the call, `mirror`.
+pub fn is_mirror_word(word: &str) -> bool
+    ensures { IsTrue result ↔ (word.now ≡ mirror_word) }
+{
+    word == "mirror"
 }
 
 // The side of a word.
@@ -34,7 +42,7 @@ fn first_side(words: &[String]) -> Option<Side>
     ensures found { IfSome result (λ side. NamesSide words.now side) }
     ensures none { IfNone result ((side : Side) → ¬ NamesSide words.now side) }
 {
-    if words.len() < 2 || words[0].as_str() != "mirror" {
+    if words.len() < 2 || !is_mirror_word(words[0].as_str()) {
         return None;
     }
     side_of(words[1].as_str())

@@ -7,7 +7,10 @@ ghost use Rattle.bm_top.specs.Moment.{source_of, sink_of};
 use crate::batch::call_batch;
 use crate::one_job::{OneJob, call_one};
 use crate::start_error::StartError;
+use bm_batch_call::begins_batch;
 use bm_filerack::LockFile;
+use bm_kind_call::is_kind_word;
+use bm_mirror_call::is_mirror_word;
 use bm_rack::{Sink, Source};
 use bm_top::Status;
 use std::os::unix::fs::FileExt;
@@ -27,11 +30,14 @@ pub enum Choice {
 pub fn choice_of(word: &str) -> Choice
     ensures { Chooses word.now result }
 {
-    match word {
-        "batch" | "batch-run" => Choice::Batch,
-        "mirror" => Choice::One(OneJob::Mirror),
-        "kind" => Choice::One(OneJob::Transform),
-        _ => Choice::One(OneJob::Command),
+    if begins_batch(word) {
+        Choice::Batch
+    } else if is_mirror_word(word) {
+        Choice::One(OneJob::Mirror)
+    } else if is_kind_word(word) {
+        Choice::One(OneJob::Transform)
+    } else {
+        Choice::One(OneJob::Command)
     }
 }
 

@@ -19,6 +19,10 @@ use std::rt::Files;
 /// the call, and the call the disks.
 ///
 /// Nothing is opened, read or written where a stream is closed or the words can't be had.
+///
+/// No contract sees the words of a runtime, nor what its streams hold. So no clause stands here: those
+/// of `choice_of` and `call_chosen` say what is done with words and streams, and tests over real
+/// files hold that these are the program's own.
 pub fn run<R, I, O, E>(rt: &R, input: I, out: O, err: E) -> Result<Status, StartError>
 where
     R: Env + Files + AllocGlobal,
