@@ -10,8 +10,8 @@ use Rattle.bm_control.specs.Pages.{IsZeroPage}
 abbrev pub IsShut : List ℕ → List ℕ → Type 0
 IsShut old new = (IsOpenGate old × IsZeroPage new) ⊎ (IsClosedGate old × (new ≡ old))
 
--- A gate at an exit of a call that closes it: where it is closed there it was shut. A page of which a write failed may hold anything, and is
--- dirty.
+-- A gate at an exit of a call that closes it: where it is closed, and not dirty, it was shut. A page of which a write failed may hold
+-- anything, and is dirty.
 abbrev pub ClosesByZeros : ℕ → RackView → RackView → Type 0
 ClosesByZeros gate old new = IsCleanPage gate new → IsClosedGate (page_at new.contents gate)
     → IsShut (page_at old.contents gate) (page_at new.contents gate)

@@ -47,7 +47,8 @@ pub fn mark_part<R: Rack>(
     ensures opened { IsTrue R.tells_contents
         → OnOk result (IsOpenGate (page_at (R.view rack.new).contents (page.slot_gate slot))) }
     ensures body { IsTrue R.tells_contents
-        → OnOk result (page_at (R.view rack.new).contents (page.slot_body slot) ≡ part_page pass loads) }
+        → OnOk result
+        (page_at (R.view rack.new).contents (page.slot_body slot) ≡ part_page pass loads) }
     ensures call { RackCall (IsSlotPage slot) (IsErr result) (R.view rack.old) (R.view rack.new) }
     ensures least { OnOk result (MakesAtLeast 3 2 (R.view rack.old) (R.view rack.new)) }
     ensures most { MakesPageCalls ⊥ 4 3 (R.view rack.old) (R.view rack.new) }
