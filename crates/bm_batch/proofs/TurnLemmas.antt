@@ -23,9 +23,10 @@ use Rattle.bm_job.specs.Begins.{HasBodies}
 use Rattle.bm_job.specs.Follows.{Follows, loads_moved}
 use Rattle.bm_job.specs.Runs.{IsWorkUnit, loads_left, load_rows}
 use Rattle.bm_job.specs.Turns.{SameJob, IsNextOf, IsHalted, TurnAnswer, IsTurnUnit, IsBadBody, form_pages, durable_pages, durable_syncs}
-use Rattle.bm_job.proofs.CallLemmas.{call_of, no_refusal}
+use Rattle.bm_job.proofs.CallLemmas.{call_of, no_refusal, holds_ok}
 use Rattle.bm_job.proofs.EndLemmas.{done_records, same_input_records}
 use Rattle.bm_job.proofs.PaceLemmas.{load_left}
+use Rattle.bm_job.proofs.RunLemmas.{raised_most}
 use Rattle.bm_job.proofs.WorkUnitLemmas.{turn_work}
 use Rattle.bm_batch.specs.declared.bay_slot.BaySlot.{BaySlot}
 use Rattle.bm_batch.specs.declared.bay_state.BayState.{BayState}
@@ -75,11 +76,7 @@ went_well : (r : Result Turn RunError) → ((e : RunError) → answered r ≢ En
 went_well (Ok t) none = refl
 went_well (Err e) none = absurd (none e refl)
 
--- what holds of an answer that is none
-holds_ok : {T E P : Type 0} (r : Result T E) → IsOk r → OnOk r P → P
-holds_ok (Ok x) ok holds = holds
-holds_ok (Err e) ok holds = absurd (false≢true ok)
-
+-- what holds of an answer that is this refusal
 holds_err : {T E P : Type 0} (r : Result T E) (e : E) → IsErrOf r e → OnErr r P → P
 holds_err (Ok x) e is holds = absurd (no_refusal x e is)
 holds_err (Err f) e is holds = holds
@@ -110,9 +107,6 @@ one_within m left =
     let few : 2 * load_stripes m.shape * 1 ≤ load_rows m.shape (loads_left m) = mul-le-mul_left (2 * load_stripes m.shape) (omega
     (arith, more)) in
     omega (arith, few)
-
-raised_more : (a b k l : ℕ) → b ≤ raised a k → k ≤ l → b ≤ raised a l
-raised_more a b k l high more = omega (arith, high, more)
 
 -- ---- bodies
 
@@ -188,7 +182,7 @@ bay_went ts tc m next r slot old new left machine state f = record {
   moves = λ none.
       let ok = went_well r (λ e is. none e (state ∙ is)) in
       f.counts.done ok ∙ ap (λ (k : ℕ). raised old.moves k) (sym (one_load m.shape _ _ (holds_ok r ok f.moved)));
-  most = raised_more old.moves new.moves _ _ f.counts.moves_high (one_within m left);
+  most = raised_most old.moves new.moves _ _ f.counts.moves_high (one_within m left);
   least = f.counts.moves_low;
   follows = λ ts tc fo none. holds_ok r (went_well r (λ e is. none e (state ∙ is))) (f.follows ts tc fo);
   sound = f.sound;

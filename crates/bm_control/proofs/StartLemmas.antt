@@ -136,7 +136,7 @@ loaded_stands s v dims stands sizes sound opened body =
     stands ∙ ap Some (sym l.dims_are ∙ ap dims_of (load_unique l.shape s (page_at v.contents load_body) l.body body))
 
 -- an open gate is no load body
-gate_no_body : ¬ ((s : Shape) × (open_gate ≡ load_page s))
+pub gate_no_body : ¬ ((s : Shape) × (open_gate ≡ load_page s))
 unfolding open_gate load_page padded
 gate_no_body found =
     let e : slice_index_or open_gate 4 0 ≡ slice_index_or (load_page found.0) 4 0 = ap (λ (p : List ℕ). slice_index_or p 4 0) found.1 in

@@ -38,6 +38,18 @@ reads_within n most old new well less x =
       high = omega (arith, x.pages, less);
     }
 
+-- pages of which fewer may be, and more
+pub reads_wider : {tells_stands tells_contents : Bool} (least most more : ℕ) (old new : RackView)
+    → IsWellFormed tells_stands tells_contents old → most ≤ more → ReadsPages least most old new → ReadsPages 0 more old new
+reads_wider least most more old new well less x =
+    let fp = well.pages in
+    record {
+      moves = x.moves;
+      syncs = x.syncs;
+      low = omega (arith, x.low, fp);
+      high = omega (arith, x.high, less);
+    }
+
 -- the pages of a job whose body was found
 pub job_pages : (s : Shape) (v : Contents) (page : List ℕ) (found : Job × ℕ × ℕ) (old new : RackView) → page ≡ page_at v job_body
     → ((job : Job) (passes every : ℕ) → ◌≡◌ {A = Option (Job × ℕ × ℕ)} (Some found) (Some (job, passes, every)) ↔ IsJobBody s page job

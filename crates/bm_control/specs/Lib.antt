@@ -6,5 +6,6 @@ pub mod Sound
 pub mod Progress
 pub mod State
 pub mod Moments
+pub mod Closing
 pub mod StateCalls
 pub mod PageCalls

@@ -5,12 +5,14 @@ ghost use Rattle.bm_base.specs.Contents.{page_at};
 ghost use Rattle.bm_rack.specs.RackView.{IsAttached, IsClean};
 ghost use Rattle.bm_rack.specs.Frames.{RackCall};
 ghost use Rattle.bm_rack.specs.Calls.{IsPage};
+ghost use Rattle.bm_control.specs.Moments.{IsCleanPage};
 ghost use Rattle.bm_control.specs.PageCalls.{MakesPageCalls};
 
 use bm_base::{Failed, PAGE_BYTES};
 use bm_rack::Rack;
 
-/// Writes a page of the slate and syncs. The page is below 516.
+/// Writes a page of the slate and syncs. The page is below 516. Where it failed and the page is not
+/// dirty, the page holds the bytes all the same.
 pub fn write_page_durably<R: Rack>(
     rack: &mut R,
     page: u16,
@@ -22,6 +24,8 @@ pub fn write_page_durably<R: Rack>(
     ensures clean { OnOk result (IsClean (R.view rack.new)) }
     ensures taken { IsTrue R.tells_contents
         → OnOk result (page_at (R.view rack.new).contents page ≡ bytes.now) }
+    ensures held { IsTrue R.tells_contents → IsCleanPage page (R.view rack.new)
+        → page_at (R.view rack.new).contents page ≡ bytes.now }
     ensures counts { MakesPageCalls (IsOk result) 1 1 (R.view rack.old) (R.view rack.new) }
 {
     rack.write_page(page, bytes)?;

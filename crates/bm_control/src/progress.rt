@@ -7,6 +7,7 @@ ghost use Rattle.bm_rack.specs.RackView.{IsAttached, IsClean};
 ghost use Rattle.bm_rack.specs.Frames.{RackCall, SameState};
 ghost use Rattle.bm_rack.specs.Calls.{IsPage};
 ghost use Rattle.bm_control.specs.Bodies.{part_page, PartBodyFits};
+ghost use Rattle.bm_control.specs.Closing.{ClosesByZeros, IsShut};
 ghost use Rattle.bm_control.specs.Moments.{PartIsMoved, IsCleanPage};
 ghost use Rattle.bm_control.specs.PageCalls.{MakesPageCalls, MakesAtLeast, IsSlotPage};
 ghost use Rattle.bm_control.specs.Pages as page;
@@ -23,8 +24,9 @@ use bm_rack::Rack;
 /// the counted one. The pass is counted from 1, 254 at most; the loads are below N/M.
 ///
 /// It closes the slot by 512 zeros where it is open, writes the body, and opens the slot, with a
-/// sync after each. A gate that is closed already is not written, since its body may be anything. A rack that
-/// is sound stays sound at each exit.
+/// sync after each. A gate that is closed already is not written, since its body may be anything.
+/// At an exit where the gate is closed, and not dirty of a write that failed, it is those zeros, or
+/// as it was. A rack that is sound stays sound at each exit.
 pub fn mark_part<R: Rack>(
     rack: &mut R,
     shape: &Shape,
@@ -40,10 +42,13 @@ pub fn mark_part<R: Rack>(
         → PartIsMoved shape.now (R.view rack.old).contents pass loads
         → IsSound (R.view rack.new) }
     ensures clean { OnOk result (IsClean (R.view rack.new)) }
+    ensures closed { IsTrue R.tells_contents
+        → ClosesByZeros (page.slot_gate slot) (R.view rack.old) (R.view rack.new) }
     ensures opened { IsTrue R.tells_contents
         → OnOk result (IsOpenGate (page_at (R.view rack.new).contents (page.slot_gate slot))) }
     ensures body { IsTrue R.tells_contents
-        → OnOk result (page_at (R.view rack.new).contents (page.slot_body slot) ≡ part_page pass loads) }
+        → OnOk result
+        (page_at (R.view rack.new).contents (page.slot_body slot) ≡ part_page pass loads) }
     ensures call { RackCall (IsSlotPage slot) (IsErr result) (R.view rack.old) (R.view rack.new) }
     ensures least { OnOk result (MakesAtLeast 3 2 (R.view rack.old) (R.view rack.new)) }
     ensures most { MakesPageCalls ⊥ 4 3 (R.view rack.old) (R.view rack.new) }
@@ -69,8 +74,10 @@ fn close_slot<R: Rack>(rack: &mut R, slot: u8) -> Result<(), Failed>
     ensures closed { IsTrue R.tells_contents
         → OnOk result (IsClosedGate (page_at (R.view rack.new).contents (page.slot_gate slot))) }
     ensures zeros { IsTrue R.tells_contents
-        → IsOpenGate (page_at (R.view rack.old).contents (page.slot_gate slot))
-        → OnOk result (page.IsZeroPage (page_at (R.view rack.new).contents (page.slot_gate slot))) }
+        → ClosesByZeros (page.slot_gate slot) (R.view rack.old) (R.view rack.new) }
+    ensures shut { IsTrue R.tells_contents
+        → OnOk result (IsShut (page_at (R.view rack.old).contents (page.slot_gate slot))
+        (page_at (R.view rack.new).contents (page.slot_gate slot))) }
     ensures kept { IsTrue R.tells_contents
         → IsClosedGate (page_at (R.view rack.old).contents (page.slot_gate slot))
         → SameState (R.view rack.old) (R.view rack.new) }

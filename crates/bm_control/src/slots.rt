@@ -80,7 +80,7 @@ fn counted(first: Option<u64>, second: Option<u64>) -> (u64, u8)
 }
 
 /// Reads the slots of a job that has them. The answer is the number of loads that are counted of
-/// the pass under way, and the slot that counts them, 2 where none does.
+/// the pass under way, and the slot that counts them, `NO_SLOT` where none does.
 pub fn read_slots<R: Rack>(
     rack: &mut R,
     shape: &Shape,

@@ -32,7 +32,7 @@ pub enum SlateState {
         every: u64,
         /// How many loads of the next pass are counted.
         part: u64,
-        /// The slot that counts them, or 2 where none does.
+        /// The slot that counts them, or `NO_SLOT` where none does.
         slot: u8,
     },
 }

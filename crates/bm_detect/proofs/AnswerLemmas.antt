@@ -1,5 +1,5 @@
 -- From a scan of all numbers to the answer, and from a map to Ok.
-use Rattle.std.proofs.Common.{◌≡◌, ◌≢◌, ℕ, ◌^◌, ◌<◌, ◌≤◌, Option, Some, None, Result, Ok, Err, IsOk, bit_xor, inl, inr, sym, ap, subst, ◌∙◌}
+use Rattle.std.proofs.Common.{◌≡◌, ◌≢◌, ℕ, ◌^◌, ◌<◌, ◌≤◌, Result, Ok, Err, IsOk, bit_xor, inl, inr, sym, ap, subst, ◌∙◌}
 use Rattle.std.proofs.Common.{arith, refl}
 use Rattle.std.specs.Int.Bits.{xor_zero_r}
 use Rattle.std.proofs.lemmas.Nat.{pow_pos, xor_comm, xor_lt}
@@ -14,11 +14,10 @@ use Rattle.bm_gf2.proofs.VectorLemmas.{xor_same, xor_cancel, xor_sum-zero, xor_s
 use Rattle.bm_rank.proofs.RowCutLemmas.{image_below}
 use Rattle.bm_detect.specs.declared.detect_error.DetectError.{DetectError}
 use Rattle.bm_detect.specs.declared.detect_error.DetectError.TheVariants as refusal
-use Rattle.bm_detect.specs.declared.scan_state.Difference.{Difference}
 use Rattle.bm_detect.specs.declared.scan_state.Scan.{Scan}
 use Rattle.bm_detect.specs.Candidate.{IsAffineBy, candidate, candidate_image, candidate_column}
 use Rattle.bm_detect.specs.Answer.{AreCandidates, DetectAnswer}
-use Rattle.bm_detect.specs.Scan.{IsFirst, IsScan, Knows, Scanned}
+use Rattle.bm_detect.specs.Scan.{IsScan, Knows, Scanned}
 
 -- after all numbers each column is known
 all_known : (n k : ℕ) → 2 ^ n ≤ 2 ^ k → n ≤ k
@@ -97,12 +96,6 @@ found n ys f (Err (refusal.NotAffine x y want)) is nonsingular answer read =
 found n ys f (Err (refusal.Singular x)) is nonsingular answer read =
     let sent = answer.2 in
     absurd (sent.some (nonsingular x (subst (λ (m : ℕ). x < 2 ^ m) (sym is.size) sent.inside) (sym (image_of n ys f is x) ∙ sent.sent)))
-
--- no first difference, so none
-pub no_first : (n seen : ℕ) (ys : ℕ → ℕ) (o : Option Difference) → ((d : Difference) → o ≡ Some d → ⊥) → IsFirst n ys seen o
-    → AreCandidates n ys seen
-no_first n seen ys None none first = first
-no_first n seen ys (Some d) none first = absurd (none d refl)
 
 -- a refusal of the scan is one of detection
 pub refused : (n seen : ℕ) (ys : ℕ → ℕ) (e : DetectError) → Scanned n ys seen (Err e) → DetectAnswer n ys (Err e)

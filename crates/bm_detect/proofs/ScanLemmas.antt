@@ -1,10 +1,9 @@
 -- One number more of a scan.
-use Rattle.std.proofs.Common.{◌≡◌, ◌≢◌, ℕ, ◌+◌, ◌*◌, ◌^◌, ◌<◌, ◌≤◌, false, Option, Some, None, bit_xor, inl, inr, sym, ap, subst, ◌∙◌}
+use Rattle.std.proofs.Common.{◌≡◌, ◌≢◌, ℕ, ◌+◌, ◌*◌, ◌^◌, ◌<◌, ◌≤◌, Option, Some, None, bit_xor, inl, inr, refl, sym, ap, subst, ◌∙◌}
 use Rattle.std.proofs.Common.{arith}
 use Rattle.std.specs.Int.Bits.{xor_zero_r}
 use Rattle.std.proofs.lemmas.Nat.{pow_pos, pow-add, xor_comm}
-use Rattle.std.proofs.lemmas.Bool.{cases_lt, false≢true}
-use Rattle.std.specs.Option.{is_some}
+use Rattle.std.proofs.lemmas.Bool.{cases_lt}
 use Rattle.bm_gf2.specs.Vector.{xor_sum}
 use Rattle.bm_gf2.specs.Matrix.{column}
 use Rattle.bm_gf2.specs.Affine.{affine_image}
@@ -83,6 +82,7 @@ columns_more k old new wanted before others changed i l = elim (cases_lt i k) [
 ]
 
 -- no first difference, so none
-pub none_first : (n seen : ℕ) (ys : ℕ → ℕ) (o : Option Difference) → false ≡ is_some o → IsFirst n ys seen o → AreCandidates n ys seen
-none_first n seen ys None h first = first
-none_first n seen ys (Some d) h first = absurd (false≢true h)
+pub no_first : (n seen : ℕ) (ys : ℕ → ℕ) (o : Option Difference) → ((d : Difference) → o ≡ Some d → ⊥) → IsFirst n ys seen o
+    → AreCandidates n ys seen
+no_first n seen ys None none first = first
+no_first n seen ys (Some d) none first = absurd (none d refl)

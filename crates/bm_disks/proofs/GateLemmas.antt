@@ -8,10 +8,11 @@ use Rattle.bm_rack.specs.RackView.{RackView, IsClean}
 use Rattle.bm_rack.specs.Calls.{Synced}
 use Rattle.bm_rack.specs.Frames.{SameState, RaisesCounts, DirtiesOnly}
 use Rattle.bm_rack.proofs.FrameLemmas.{RaisesCounts-trans, ChangesOnly-same, DirtiesOnly-changes, DirtiesOnly-synced}
+use Rattle.bm_control.specs.Closing.{IsShut}
 use Rattle.bm_control.specs.Sound.{IsSound}
 use Rattle.bm_control.proofs.ImageLemmas.{Settled, settled_in_image, settled_clean, settled_within, zeros_closed}
 use Rattle.bm_control.proofs.SoundLemmas.{sound_closed}
-use Rattle.bm_disks.specs.Loading.{IsShut, IsLoadShut, AreGatesClosed}
+use Rattle.bm_disks.specs.Loading.{IsLoadShut, AreGatesClosed}
 
 -- a gate that was shut is closed
 pub shut_closed : (old new : List ℕ) → IsShut old new → IsClosedGate new

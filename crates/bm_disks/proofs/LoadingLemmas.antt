@@ -9,10 +9,11 @@ use Rattle.bm_rack.specs.RackView.{RackView}
 use Rattle.bm_rack.specs.Frames.{ChangesOnly, DirtiesOnly, RaisesCounts}
 use Rattle.bm_rack.proofs.FrameLemmas.{DirtiesOnly-changes, DirtiesOnly-trans, DirtiesOnly-wider}
 use Rattle.bm_stripe.specs.Units.{IsAreaUnit}
+use Rattle.bm_control.specs.Closing.{IsShut}
 use Rattle.bm_control.specs.PageCalls.{IsLoadPage}
 use Rattle.bm_disks.specs.declared.load_error.LoadError.{LoadError}
 use Rattle.bm_disks.specs.Input.{IsInputRefusal}
-use Rattle.bm_disks.specs.Loading.{IsGatePage, IsLoadingUnit, HoldsInput, AreGatesClosed, IsShut}
+use Rattle.bm_disks.specs.Loading.{IsGatePage, IsLoadingUnit, HoldsInput, AreGatesClosed}
 use Rattle.bm_rack.specs.Frames.{MovesRows}
 use Rattle.bm_disks.proofs.GateLemmas.{BothClosed, both_within, both_in_images}
 

@@ -1,32 +1,30 @@
 -- A job that is looked at.
-use Rattle.std.proofs.Common.{Ok, Err, ◌≡◌, ℕ, ◌+◌, ◌*◌, ◌≤◌, Bool, IsTrue, Some, Result, IsErrAnd, IsOk, IfOk, refl, sym, ◌∙◌, subst}
+use Rattle.std.proofs.Common.{Ok, Err, ◌≡◌, inr, ℕ, ◌+◌, ◌*◌, Bool, IsTrue, Some, Result, IsErrAnd, IsOk, IfOk, refl, sym, ◌∙◌, subst}
 use Rattle.std.proofs.Common.{arith}
 use Rattle.bm_base.specs.declared.dims.Dims.{Dims}
 use Rattle.bm_base.specs.declared.shape.Shape.{Shape}
-use Rattle.bm_base.specs.Contents.{Contents, page_at}
+use Rattle.bm_base.specs.Contents.{Contents}
 use Rattle.bm_base.specs.Shape.{dims_of}
 use Rattle.bm_forms.specs.declared.job.Job.{Job}
 use Rattle.bm_rack.specs.RackView.{RackView, IsWellFormed}
 use Rattle.bm_rack.specs.Frames.{RaisesCounts}
-use Rattle.bm_rack.proofs.FrameLemmas.{raised-zero}
 use Rattle.bm_control.specs.declared.state.SlateState.{SlateState}
 use Rattle.bm_control.specs.declared.state.SlateState.TheVariants.{Closed, Loaded, Working}
 use Rattle.bm_control.specs.declared.state.ControlError.{ControlError}
 use Rattle.bm_control.specs.declared.state.ControlError.TheVariants as control
 use Rattle.bm_control.specs.Consistent.{GatesAre, IsConsistent}
-use Rattle.bm_control.specs.PageCalls.{MakesPageCalls, ReadsPages}
+use Rattle.bm_control.specs.PageCalls.{MakesPageCalls}
 use Rattle.bm_control.specs.Sound.{IsSound}
-use Rattle.bm_control.specs.State.{StateAnswer, StateFits}
+use Rattle.bm_control.specs.State.{StateAnswer}
 use Rattle.bm_control.specs.StateCalls.{StateCalls}
 use Rattle.bm_control.proofs.ImageLemmas.{image_self}
-use Rattle.bm_control.proofs.JobBodyLemmas.{limit-most}
 use Rattle.bm_control.proofs.EqualLemmas.{error_is}
 use Rattle.bm_control.proofs.GoneLemmas.{all_done_means}
-use Rattle.bm_control.proofs.MomentLemmas.{load_unique}
-use Rattle.bm_control.proofs.UniqueLemmas.{job_unique}
+use Rattle.bm_control.proofs.StateCallLemmas.{reads_wider}
 use Rattle.bm_control.proofs.WrongPageLemmas.{no_bad_page}
-use Rattle.bm_job.specs.Begins.{IsLoadedState, IsOpenState}
-use Rattle.bm_job.proofs.BeginLemmas.{err_injective, sync_read}
+use Rattle.bm_job.specs.Runs.{IsRunnable}
+use Rattle.bm_job.proofs.BeginLemmas.{err_injective, sync_read, told_of}
+use Rattle.bm_job.proofs.EndLemmas.{loaded_shape, open_job}
 use Rattle.bm_disks.specs.declared.job_opening.OpenJob.{OpenJob}
 use Rattle.bm_disks.specs.declared.job_opening.OpenError.{OpenError}
 use Rattle.bm_disks.specs.declared.job_opening.OpenError.TheVariants.{Failed, BadPage, NotLoaded, OtherShape, NoJob, OtherJob}
@@ -43,18 +41,16 @@ answer_refused s job v w e r same is answer =
     subst (OpenAnswer s job v) (sym (error_is r (open_error e) is))
     (refused s job v e (subst (λ (c : Contents). StateAnswer c (Err e)) same answer))
 
-told : (v : Contents) (state other : SlateState) → state ≡ other → StateAnswer v (Ok state) → StateAnswer v (Ok other)
-told v state other is answer = subst (λ (x : SlateState). StateAnswer v (Ok x)) is answer
-
 -- what a state that was read says of the job
 read_told : (s : Shape) (job : Job) (v : Contents) (state : SlateState) (r : Result OpenJob OpenError) → StateAnswer v (Ok state)
     → ReadAnswer s job state r → OpenAnswer s job v r
-read_told s job v state (Ok o) answer read = (read.0, told v state (Working s job o.passes o.done o.every o.part read.0) read.1 answer)
+read_told s job v state (Ok o) answer read =
+    (read.0, told_of v v state (Working s job o.passes o.done o.every o.part read.0) refl read.1 answer)
 read_told s job v state (Err Failed) answer read = tt
 read_told s job v state (Err (BadPage page)) answer read = absurd read
-read_told s job v state (Err NotLoaded) answer read = told v state Closed read answer
+read_told s job v state (Err NotLoaded) answer read = told_of v v state Closed refl read answer
 read_told s job v state (Err OtherShape) answer read = (state, answer, read)
-read_told s job v state (Err NoJob) answer read = told v state (Loaded s) read answer
+read_told s job v state (Err NoJob) answer read = told_of v v state (Loaded s) refl read answer
 read_told s job v state (Err OtherJob) answer read = (state, answer, read.0, read.1)
 
 pub answer_read : (s : Shape) (job : Job) (v w : Contents) (state : SlateState) (r : Result OpenJob OpenError) → w ≡ v
@@ -68,21 +64,13 @@ pub answer_good : (dims : Dims) (s : Shape) (job : Job) (v : Contents) (r : Resu
 answer_good dims s job v r page consistent answer is =
     no_bad_page dims v page consistent (subst (OpenAnswer s job v) is answer)
 
--- the shape that is loaded
-loaded_shape : (v : Contents) (state : SlateState) (t : Shape) (s : Shape) (job : Job) → StateAnswer v (Ok state) → IsLoadedState t state
-    → IsOpenCase s job v → t ≡ s
-loaded_shape v Closed t s job answer is open_case = absurd is
-loaded_shape v (Loaded u) t s job answer is open_case = sym is ∙ load_unique u s (page_at v 0) answer.1 open_case.gates.load_body
-loaded_shape v (Working u other passes done every part slot) t s job answer is open_case =
-    sym is ∙ load_unique u s (page_at v 0) answer.0.load_body open_case.gates.load_body
-
--- the job that is open
-open_job_is : (v : Contents) (state : SlateState) (s : Shape) (other job : Job) → StateAnswer v (Ok state) → IsLoadedState s state
-    → IsOpenState other state → IsOpenCase s job v → other ≡ job
-open_job_is v Closed s other job answer loaded is open_case = absurd is
-open_job_is v (Loaded u) s other job answer loaded is open_case = absurd is
-open_job_is v (Working u found passes done every part slot) s other job answer loaded is open_case =
-    sym is ∙ job_unique u s (page_at v 2) found job passes open_case.passes every open_case.every answer.1.body open_case.body
+-- a job that is open can be run
+open_runnable : (s : Shape) (job : Job) (v : Contents) → IsOpenCase s job v → IsRunnable s job v
+open_runnable s job v open_case = record {
+  load_gate = open_case.gates.load_gate;
+  load_body = open_case.gates.load_body;
+  job_gate = inr (open_case.passes, open_case.every, open_case.body);
+}
 
 -- A job that is open is found, where the rack did not fail.
 pub answer_complete : (dims : Dims) (s : Shape) (job : Job) (v : Contents) (r : Result OpenJob OpenError) → IsConsistent dims v
@@ -92,10 +80,10 @@ answer_complete dims s job v (Err Failed) consistent answer open_case sure = abs
 answer_complete dims s job v (Err (BadPage page)) consistent answer open_case sure = absurd (no_bad_page dims v page consistent answer)
 answer_complete dims s job v (Err NotLoaded) consistent answer open_case sure = absurd (answer open_case.gates.load_gate)
 answer_complete dims s job v (Err OtherShape) consistent answer open_case sure =
-    absurd (answer.2.2 (loaded_shape v answer.0 answer.2.0 s job answer.1 answer.2.1 open_case))
+    absurd (answer.2.2 (loaded_shape s answer.2.0 v answer.0 answer.1 answer.2.1 open_case.gates.load_body))
 answer_complete dims s job v (Err NoJob) consistent answer open_case sure = absurd (answer.2 open_case.gates.job_gate)
 answer_complete dims s job v (Err OtherJob) consistent answer open_case sure =
-    absurd (answer.3.2 (open_job_is v answer.0 s answer.3.0 job answer.1 answer.2 answer.3.1 open_case))
+    absurd (answer.3.2 (open_job s job answer.3.0 v answer.0 answer.1 answer.3.1 (open_runnable s job v open_case)))
 
 -- the records of the last pass's area, once all are done
 last_means : (dims : Dims) (s : Shape) (job : Job) (v : Contents) (o : OpenJob) → IsConsistent dims v → OpenAnswer s job v (Ok o)
@@ -132,46 +120,7 @@ pub never_failed : (s : Shape) (job : Job) (state : SlateState) (r : Result Open
     → ¬ (r ≡ Err Failed)
 never_failed s job state r read is = subst (ReadAnswer s job state) is read
 
--- pages that were read, of which more may be
-reads_exact : {tells_stands tells_contents : Bool} (p most : ℕ) (a b : RackView) → IsWellFormed tells_stands tells_contents a → p ≤ most
-    → RaisesCounts 0 p 0 a b → ReadsPages 0 most a b
-reads_exact p most a b well few x =
-    let fp = well.pages in
-    record {
-      moves = x.moves ∙ raised-zero a.moves well.moves;
-      syncs = x.syncs ∙ raised-zero a.syncs well.syncs;
-      low = omega (arith, x.pages, fp);
-      high = omega (arith, x.pages, few);
-    }
-
-reads_wider : {tells_stands tells_contents : Bool} (least most more : ℕ) (a b : RackView) → IsWellFormed tells_stands tells_contents a
-    → most ≤ more
-    → ReadsPages least most a b → ReadsPages 0 more a b
-reads_wider least most more a b well few x =
-    let fp = well.pages in
-    record {
-      moves = x.moves;
-      syncs = x.syncs;
-      low = omega (arith, x.low, fp);
-      high = omega (arith, x.high, few);
-    }
-
-state_reads : {tells_stands tells_contents : Bool} (state : SlateState) (a b : RackView) → IsWellFormed tells_stands tells_contents a
-    → StateFits state → StateCalls (Ok state) a b → ReadsPages 0 516 a b
-state_reads Closed a b well fits x = reads_exact 1 516 a b well (omega arith) x
-state_reads (Loaded s) a b well fits x = reads_exact 3 516 a b well (omega arith) x
-state_reads (Working s job passes done every part slot) a b well fits x =
-    let few = fits.body.passes_few in
-    let limit = limit-most s job in
-    reads_wider (4 + 2 * passes) (8 + 2 * passes) 516 a b well (omega (arith, few, limit)) x.0
-
--- the calls of a look
-pub look_counts : {tells_stands tells_contents : Bool} (state : SlateState) (a b c : RackView) → IsWellFormed tells_stands tells_contents a
-    → IsWellFormed tells_stands tells_contents b → StateFits state → RaisesCounts 0 0 1 a b → StateCalls (Ok state) b c
-    → MakesPageCalls ⊥ 516 1 a c
-look_counts state a b c well after fits x y = sync_read 516 516 a b c well x (state_reads state b c after fits y) (omega arith)
-
--- and of one that finds the job
+-- the calls of a look that finds the job
 pub look_pages : {tells_stands tells_contents : Bool} (s : Shape) (job : Job) (state : SlateState) (r : Result OpenJob OpenError)
     (a b c : RackView)
     → IsWellFormed tells_stands tells_contents a → IsWellFormed tells_stands tells_contents b → ReadAnswer s job state r

@@ -13,7 +13,8 @@ use Rattle.bm_rack.specs.Image.{InEveryImage, IsInputUnit}
 use Rattle.bm_rack.specs.Frames.{RaisesCounts}
 use Rattle.bm_stripe.specs.Units.{IsAreaUnit}
 use Rattle.bm_control.specs.PageCalls.{IsLoadPage}
-use Rattle.bm_control.specs.Pages.{load_body, load_gate, job_gate, IsZeroPage, HasOpenLoad, HasClosedLoad, HasClosedJob, HasLoadBody}
+use Rattle.bm_control.specs.Closing.{IsShut}
+use Rattle.bm_control.specs.Pages.{load_body, load_gate, job_gate, HasOpenLoad, HasClosedLoad, HasClosedJob, HasLoadBody}
 
 -- the pages of both gates
 abbrev pub IsGatePage : RackUnit → Type 0
@@ -26,10 +27,6 @@ IsLoadingUnit s u = IsAreaUnit s Input u ⊎ (IsLoadPage u ⊎ IsPage job_gate u
 -- the load gate and the job gate are closed in every image
 abbrev pub AreGatesClosed : RackView → Type 0
 AreGatesClosed v = InEveryImage (λ c. HasClosedLoad c × HasClosedJob c) v
-
--- a gate's page after it was shut: zeros where it was open, and untouched where it was closed
-abbrev pub IsShut : List ℕ → List ℕ → Type 0
-IsShut old new = (IsOpenGate old × IsZeroPage new) ⊎ (IsClosedGate old × (new ≡ old))
 
 -- The gates after a load: records of this shape are loaded, and no job is open.
 pub record HasLoad (s : Shape) (old new : Contents) : Type 0 where

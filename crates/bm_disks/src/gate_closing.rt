@@ -6,10 +6,11 @@ ghost use Rattle.bm_base.specs.Gate.{IsOpenGate, IsClosedGate};
 ghost use Rattle.bm_rack.specs.RackView.{IsAttached, IsClean};
 ghost use Rattle.bm_rack.specs.Calls.{IsPage};
 ghost use Rattle.bm_rack.specs.Frames.{RackCall, SameState, RaisesCounts, Keeps, HasCause};
+ghost use Rattle.bm_control.specs.Closing.{IsShut};
 ghost use Rattle.bm_control.specs.PageCalls.{MakesPageCalls};
 ghost use Rattle.bm_control.specs.Pages.{load_gate, job_gate};
 ghost use Rattle.bm_control.specs.Sound.{IsSound};
-ghost use Rattle.bm_disks.specs.Loading.{IsGatePage, IsShut, IsLoadShut, IsClosing};
+ghost use Rattle.bm_disks.specs.Loading.{IsGatePage, IsLoadShut, IsClosing};
 
 use bm_base::{Failed, PAGE_BYTES};
 use bm_control::pages::{JOB_GATE, LOAD_GATE};

@@ -1,5 +1,5 @@
 -- A drill from its new rack to its report.
-use Rattle.std.proofs.Common.{Ok, Err, ◌≡◌, inl, inr, ℕ, ◌+◌, ◌-◌, ◌*◌, ◌%◌, ◌^◌, ◌<◌, ◌≤◌, Bool, IsTrue, List, Result, IsOk, OnOk, Some}
+use Rattle.std.proofs.Common.{Ok, Err, ◌≡◌, inl, inr, ℕ, ◌+◌, ◌-◌, ◌*◌, ◌%◌, ◌^◌, ◌<◌, ◌≤◌, Bool, IsTrue, List, Result, IsOk, Some}
 use Rattle.std.proofs.Common.{refl, sym, ◌∙◌, ap, subst, subst₂, arith}
 use Rattle.std.proofs.lemmas.Bool.{false≢true}
 use Rattle.std.proofs.Math.Nat.{mul-le-mul_left, mul-le-mul_right, le-mul_of_pos_right}
@@ -33,22 +33,17 @@ use Rattle.bm_control.specs.Sound.{IsSound}
 use Rattle.bm_control.proofs.ImageLemmas.{zeros_closed, image_clean}
 use Rattle.bm_control.proofs.JobBodyLemmas.{limit-most}
 use Rattle.bm_control.proofs.SoundLemmas.{sound_same}
-use Rattle.bm_job.specs.Runs.{IsRunnable, load_rows}
+use Rattle.bm_job.specs.Runs.{IsRunnable, load_rows, run_most}
 use Rattle.sha2.specs.Sha256.{sha256}
 use Rattle.bm_drill.specs.Generated.{generated}
 use Rattle.bm_drill.specs.Sessions.{SessionsKeep, SessionsDone}
 use Rattle.bm_drill.specs.Steps.{IsNewRack, HasGenerated}
 use Rattle.bm_drill.specs.Drill.{IsDrilled, SessionCounts}
-use Rattle.bm_drill.proofs.PaidLemmas.{rows_more}
+use Rattle.bm_job.proofs.FailedLemmas.{load_rows_more}
 use Rattle.bm_job.proofs.HeldLemmas.{has_bits}
 use Rattle.bm_job.proofs.RunLemmas.{rows_of_passes}
 
 -- ---- the input
-
--- what holds where a call succeeds
-pub on_ok : {T E P : Type 0} (r : Result T E) → OnOk r P → IsOk r → P
-on_ok (Ok x) holds ok = holds
-on_ok (Err e) holds ok = absurd (false≢true ok)
 
 -- the first gates are closed in every image
 pub gate_closed : (tc : Bool) (s : Shape) (old mid : RackView) (page : ℕ) → page < 516 → IsTrue tc → IsNewRack tc (dims_of s) old
@@ -129,7 +124,7 @@ pub session_counts : (s : Shape) (job : Job) (passes every stops start : ℕ) (t
     → every ≤ loads_of s
     → HasGenerated s start a → SessionsDone s job passes every t a b → t.restarts ≤ stops → b.moves < 2 ^ 64 - 1 → r.passes ≡ t.passes
     → r.restarts ≡ t.restarts
-    → r.moves ≡ t.moves → r.bound ≡ 2 * stripes s * limit_of s job → SessionCounts s job passes every stops r
+    → r.moves ≡ t.moves → r.bound ≡ run_most s job → SessionCounts s job passes every stops r
 session_counts s job passes every stops start t r a b within x d few less count times moves bound =
     let fresh = d.fresh (closed_all s start a x) in
     let none : AreGone 0 a = λ dims image stands i gone is. omega arith in
@@ -146,7 +141,7 @@ session_counts s job passes every stops start t r a b within x d few less count 
       most =
           let wide : every * r.restarts ≤ loads_of s * r.restarts = mul-le-mul_right r.restarts within in
           let sum : (r.passes + r.restarts) * loads_of s ≡ r.passes * loads_of s + loads_of s * r.restarts = omega arith in
-          let more = rows_more s (r.passes * loads_of s + every * r.restarts) ((r.passes + r.restarts) * loads_of s) (omega
+          let more = load_rows_more s (r.passes * loads_of s + every * r.restarts) ((r.passes + r.restarts) * loads_of s) (omega
           (arith, wide, sum)) in
           let all = rows_of_passes s (r.passes + r.restarts) in
           omega (arith, cost, more, all);
@@ -170,11 +165,11 @@ stripes_small s size =
 
 -- the sessions of a drill make few row calls
 pub sessions_small : (s : Shape) (job : Job) (passes restarts moves : ℕ) → stripes s ≤ 2 ^ 26 → passes ≤ limit_of s job → restarts ≤ 64
-    → moves ≤ 2 * stripes s * limit_of s job * (restarts + 1) → moves ≤ 2 ^ 42
+    → moves ≤ run_most s job * (restarts + 1) → moves ≤ 2 ^ 42
 sessions_small s job passes restarts moves small few less most =
     let limit = limit-most s job in
-    let one : 2 * stripes s * limit_of s job ≤ 2 * stripes s * 254 = mul-le-mul_left (2 * stripes s) limit in
-    let two : 2 * stripes s * limit_of s job * (restarts + 1) ≤ 2 * stripes s * 254 * (restarts + 1) = mul-le-mul_right
+    let one : run_most s job ≤ 2 * stripes s * 254 = mul-le-mul_left (2 * stripes s) limit in
+    let two : run_most s job * (restarts + 1) ≤ 2 * stripes s * 254 * (restarts + 1) = mul-le-mul_right
     (restarts + 1) one in
     let three : 2 * stripes s * 254 * (restarts + 1) ≤ 2 * stripes s * 254 * 65 = mul-le-mul_left (2 * stripes s * 254) (omega
     (arith, less)) in

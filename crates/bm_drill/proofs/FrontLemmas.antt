@@ -1,5 +1,5 @@
 -- The load's pages and the input over several sessions.
-use Rattle.std.proofs.Common.{◌≡◌, inl, inr, ℕ, ◌<◌, ◌≤◌, false, List, [], length, slice_index_or, set, Some, refl, sym, ◌∙◌, ap, subst}
+use Rattle.std.proofs.Common.{◌≡◌, inl, inr, ℕ, ◌<◌, ◌≤◌, false, List, [], length, set, Some, refl, sym, ◌∙◌, ap, subst}
 use Rattle.std.proofs.Common.{arith, length-set, get_or-set_same, get_or-set_other}
 use Rattle.std.proofs.lemmas.Bool.{cases_eq}
 use Rattle.bm_base.specs.declared.dims.Dims.{Dims}
@@ -9,9 +9,10 @@ use Rattle.bm_base.specs.Gate.{open_gate}
 use Rattle.bm_base.specs.Shape.{dims_of}
 use Rattle.bm_rack.specs.RackView.{RackView}
 use Rattle.bm_rack.specs.Image.{IsImage, InEveryImage, IsInputUnit, SameInput}
-use Rattle.bm_control.specs.Bodies.{load_page, padded}
+use Rattle.bm_control.specs.Bodies.{load_page}
 use Rattle.bm_control.specs.Sound.{IsSound}
 use Rattle.bm_control.proofs.ImageLemmas.{Settled, image_self, never_settled, open_settled, length-open_gate}
+use Rattle.bm_control.proofs.StartLemmas.{gate_no_body}
 use Rattle.bm_job.specs.Runs.{IsRunUnit}
 use Rattle.bm_control.specs.Pages.{HasOpenLoad, HasLoadBody}
 use Rattle.bm_drill.specs.Sessions.{KeepsRest}
@@ -146,20 +147,14 @@ input_loaded s old new stands sizes rest sound opened =
       dirty = λ u input _. (rest u (input_apart s u input) (clean u input)).0;
     }
 
--- an open gate is no load body
-gate_no_load : (s : Shape) → ¬ (open_gate ≡ load_page s)
-unfolding open_gate load_page padded
-gate_no_load s is =
-    let e : slice_index_or open_gate 4 0 ≡ slice_index_or (load_page s) 4 0 = ap (λ (p : List ℕ). slice_index_or p 4 0) is in
-    omega (arith, e)
-
 -- where this shape is loaded in every image before, it is so after
 pub load_kept : (s : Shape) (dims : Dims) (old new : RackView) → old.stands ≡ Some dims → HasSizes dims old.contents → KeepsRest s old new
     → InEveryImage HasOpenLoad old → InEveryImage (HasLoadBody s) old → HasOpenLoad new.contents × HasLoadBody s new.contents
 load_kept s dims old new stands sizes rest opened loaded =
     let gate = open_settled old dims 1 (omega arith) stands sizes opened in
     let body : Settled (λ p. p ≡ load_page s) 0 old =
-    never_settled (λ p. p ≡ load_page s) old dims 0 open_gate (omega arith) length-open_gate stands sizes (gate_no_load s) loaded in (
+    never_settled (λ p. p ≡ load_page s) old dims 0 open_gate (omega arith) length-open_gate stands sizes (λ is. gate_no_body (s, is))
+    loaded in (
       (rest (page_unit 1) (front_apart s 1 (omega arith)) gate.clean).1 ∙ gate.holds,
       (rest (page_unit 0) (front_apart s 0 (omega arith)) body.clean).1 ∙ body.holds,
     )

@@ -1,7 +1,6 @@
 -- Sessions in a row: what they keep, and that their row calls are paid for.
 use Rattle.std.proofs.Common.{◌≡◌, ◌⊎◌, inl, inr, ℕ, ◌+◌, ◌-◌, ◌*◌, ◌≤◌, Bool, IsTrue, List, Some, refl, sym, ◌∙◌, subst, arith}
 use Rattle.std.proofs.lemmas.Bool.{cases_lt}
-use Rattle.std.proofs.Math.Nat.{mul-le-mul_left}
 use Rattle.bm_base.specs.declared.dims.Dims.{Dims}
 use Rattle.bm_base.specs.declared.shape.Shape.{Shape}
 use Rattle.bm_base.specs.Contents.{page_unit, HasSizes}
@@ -15,6 +14,8 @@ use Rattle.bm_control.specs.Progress.{IsGone, AreGone}
 use Rattle.bm_control.proofs.GoneLemmas.{consistent_gone}
 use Rattle.bm_control.proofs.ImageLemmas.{image_self, image_clean}
 use Rattle.bm_job.specs.Runs.{load_rows, run_most, KeepsJobs}
+use Rattle.bm_job.proofs.EndLemmas.{raised_rows}
+use Rattle.bm_job.proofs.FailedLemmas.{load_rows_more}
 use Rattle.bm_control.specs.Pages.{job_gate, HasOpenJob, HasClosedJob}
 use Rattle.bm_drill.specs.Sessions.{SessionsKeep, KeepsRest}
 use Rattle.bm_drill.specs.Session.{SameJobPages, SessionKeeps, IsPaid, SessionStopped, IsStopped, IsBetween}
@@ -104,21 +105,18 @@ session_keeps_then ts tc s job passes every a b c x y = record {
 rows_both : (s : Shape) (k l : ℕ) → load_rows s k + load_rows s l ≡ load_rows s (k + l)
 rows_both s k l = omega arith
 
--- more loads have more rows
-pub rows_more : (s : Shape) (k l : ℕ) → k ≤ l → load_rows s k ≤ load_rows s l
-rows_more s k l h = mul-le-mul_left _ h
-
 -- a count after calls of two numbers of loads
 pub rows_paid : (s : Shape) (a b c k l total : ℕ) → b ≤ raised a (load_rows s k) → c ≤ raised b (load_rows s l) → k + l ≤ total
     → c ≤ raised a (load_rows s total)
 rows_paid s a b c k l total first second within =
     let sum = rows_both s k l in
-    let more = rows_more s (k + l) total within in
+    let more = load_rows_more s (k + l) total within in
     omega (arith, first, second, sum, more)
 
 -- and where there were none before
 pub rows_first : (s : Shape) (a b c k total : ℕ) → b ≡ a → c ≤ raised b (load_rows s k) → k ≤ total → c ≤ raised a (load_rows s total)
-rows_first s a b c k total same few within = (let more = rows_more s k total within in omega (arith, same, few, more))
+rows_first s a b c k total same few within =
+    raised_rows a b c (load_rows s k) (load_rows s total) same few (load_rows_more s k total within)
 
 -- in every image of clean contents as much is gone as in them
 pub gone_clean : (v : RackView) (gone : ℕ) → IsClean v → IsGone v.contents gone → AreGone gone v

@@ -14,10 +14,10 @@ use Rattle.bm_base.specs.Records.{record_at}
 use Rattle.bm_forms.specs.declared.job.Job.{Job}
 use Rattle.bm_forms.specs.Job.{meaning}
 use Rattle.bm_rack.specs.RackView.{RackView, IsWellFormed}
-use Rattle.bm_rack.specs.Frames.{SameState, DirtiesOnly, RackCall}
+use Rattle.bm_rack.specs.Frames.{SameState, RackCall}
 use Rattle.bm_rack.specs.Image.{IsImage, InEveryImage}
 use Rattle.bm_rack.specs.Sessions.{StopSet, Restarted}
-use Rattle.bm_rack.proofs.FrameLemmas.{raised-zero}
+use Rattle.bm_rack.proofs.FrameLemmas.{raised-zero, ChangesOnly-refl, DirtiesOnly-changes}
 use Rattle.bm_control.specs.Bodies.{IsJobBody}
 use Rattle.bm_control.specs.Consistent.{input_of}
 use Rattle.bm_control.specs.Pages.{job_body, job_gate, HasOpenJob, HasClosedJob, HasLoadBody, HasJobBody}
@@ -219,10 +219,6 @@ gone_set : (first : Bool) (least : ℕ) (old a : RackView) → StopSet first old
 gone_set first least old a x before dims image stands i = before dims image (sym x.state.stands ∙ stands)
     (image_state old a dims image x.state i)
 
--- no change at all
-pub none_changed : (P : RackUnit → Type 0) (v : RackView) → DirtiesOnly P v v
-none_changed P v = record { stands = refl; attached = refl; contents = λ u apart. refl; dirty = λ u apart clean. clean }
-
 -- the row calls of a run that failed, where a job is open after the restart
 stopped_rows : (s : Shape) (dims : Dims) (a b : RackView) (image : Contents) → a.moves < 2 ^ 64 → RunFailed s a b → IsSound b
     → b.stands ≡ Some dims
@@ -237,7 +233,7 @@ stopped_rows s dims a b image fits x sound stands sizes i opened job passes q bo
       | inr clean ↦
           let gate : IsOpenGate (page_at b.contents job_gate) = sym (i.clean (page_unit job_gate) clean) ∙ opened in
           let all : InEveryImage HasOpenJob b = λ d other _ j. j.clean (page_unit job_gate) clean ∙ gate in
-          let kept = keeps_open s dims b b stands sizes sound all (λ _. none_changed _ b) in
+          let kept = keeps_open s dims b b stands sizes sound all (λ _. DirtiesOnly-changes _ b b (ChangesOnly-refl _ b)) in
           let there : HasJobBody s b.contents job passes q = subst (λ (p : List ℕ). IsJobBody s p job passes q) (i.clean
           (page_unit job_body) kept.body_clean) body in
           x.rows all job passes q there least before dims image stands i gone is

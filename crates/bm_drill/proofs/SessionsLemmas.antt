@@ -1,5 +1,5 @@
 -- What stands after the last session, and what it answers.
-use Rattle.std.proofs.Common.{◌≡◌, ◌⊎◌, inl, inr, ℕ, ◌+◌, ◌-◌, ◌*◌, ◌^◌, ◌<◌, ◌≤◌, Bool, IsTrue, List, Some, refl, sym, ◌∙◌, ap, subst}
+use Rattle.std.proofs.Common.{◌≡◌, inl, inr, ℕ, ◌+◌, ◌-◌, ◌*◌, ◌^◌, ◌<◌, ◌≤◌, Bool, IsTrue, List, Some, refl, sym, ◌∙◌, ap, subst}
 use Rattle.std.proofs.Common.{subst₂, arith}
 use Rattle.std.proofs.lemmas.Bool.{cases_lt}
 use Rattle.bm_base.specs.declared.report.RunReport.{RunReport}
@@ -20,11 +20,12 @@ use Rattle.bm_control.specs.Consistent.{input_of}
 use Rattle.bm_control.specs.Progress.{IsGone, AreGone}
 use Rattle.bm_control.specs.Sound.{IsSound}
 use Rattle.bm_control.proofs.ImageLemmas.{image_self}
+use Rattle.bm_control.proofs.MomentLemmas.{gate_cases}
 use Rattle.bm_job.proofs.HeldLemmas.{has_bits}
 use Rattle.bm_job.specs.Runs.{load_rows, run_most, loads_before, IsReportOf, RunDone}
 use Rattle.bm_job.proofs.EndLemmas.{same_input_records}
 use Rattle.bm_control.proofs.UniqueLemmas.{passes_unique, every_unique}
-use Rattle.bm_control.specs.Pages.{job_body, HasOpenLoad, HasOpenJob, HasClosedJob, HasJobBody}
+use Rattle.bm_control.specs.Pages.{job_body, job_gate, HasOpenLoad, HasOpenJob, HasClosedJob, HasJobBody}
 use Rattle.bm_drill.specs.Sessions.{RestartsFew, SessionsDone}
 use Rattle.bm_drill.specs.Session.{SessionWent, IsBetween}
 use Rattle.bm_drill.proofs.GoneLemmas.{gone_least}
@@ -62,11 +63,6 @@ pub report_loaded : (s : Shape) (job : Job) (passes : ℕ) (v : Contents) (r : R
 report_loaded s job passes v r (inl (loaded, count, done, part)) = loaded.0
 report_loaded s job passes v r (inr (every, slot, told)) = told.0.load_gate
 
--- a job is open, or none is
-gone_cases : (v : Contents) (gone : ℕ) → IsGone v gone → HasClosedJob v ⊎ HasOpenJob v
-gone_cases v gone (inl closed) = inl closed.0
-gone_cases v gone (inr job) = inr job.opened
-
 -- ---- row calls
 
 -- what is gone at the last session was gone in every image at entry, and more
@@ -97,10 +93,10 @@ all_rows ts tc s job passes every restarts least q r old mid new told_stands tol
     elim (cases_lt 0 restarts) [
       | inl more ↦
           let paid = (x.later more).paid told_stands told_contents sound in
-          elim (gone_cases mid.contents g is) [
-            | inl closed ↦ rows_first s old.moves mid.moves new.moves (all - g) (all - least + q * restarts) (paid.none closed) rows
+          elim (gate_cases (page_at mid.contents job_gate)) [
+            | inr closed ↦ rows_first s old.moves mid.moves new.moves (all - g) (all - least + q * restarts) (paid.none closed) rows
                 (omega (arith, grows, within))
-            | inr opened ↦
+            | inl opened ↦
                 let one = paid.rows opened job r.passes q (body opened) least before g is in
                 rows_paid s old.moves mid.moves new.moves (g - least + q * restarts) (all - g) (all - least + q * restarts) one rows
                 (omega (arith, grows, within))
@@ -127,9 +123,9 @@ fresh_job : (ts tc : Bool) (s : Shape) (job : Job) (passes every restarts : ℕ)
     → IsGone mid.contents (loads_before s r) → (d : RunDone s job passes every r mid new) → InEveryImage HasClosedJob old
     → (r.passes ≡ passes) × (d.loads ≡ every)
 fresh_job ts tc s job passes every restarts r old mid new told_stands told_contents sound stands sizes x is d closed =
-    elim (gone_cases mid.contents (loads_before s r) is) [
-      | inl shut ↦ d.fresh shut
-      | inr opened ↦
+    elim (gate_cases (page_at mid.contents job_gate)) [
+      | inr shut ↦ d.fresh shut
+      | inl opened ↦
           let keeps = x.keeps.jobs told_stands told_contents sound in
           let there : old.stands ≡ Some (dims_of s) = sym x.keeps.kept.stands ∙ stands in
           elim (keeps.bodies (dims_of s) mid.contents stands (image_self mid (dims_of s) sizes) opened) [

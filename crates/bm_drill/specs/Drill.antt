@@ -7,11 +7,10 @@ use Rattle.bm_base.specs.Records.{record_at, SameRecords, bytes_of}
 use Rattle.bm_base.specs.Shape.{dims_of, stripes, loads_of}
 use Rattle.bm_forms.specs.declared.job.Job.{Job}
 use Rattle.bm_forms.specs.Job.{meaning}
-use Rattle.bm_forms.specs.PassLimit.{limit_of}
 use Rattle.bm_rack.specs.RackView.{RackView, IsClean}
 use Rattle.bm_control.specs.Consistent.{input_of}
 use Rattle.bm_control.specs.Sound.{IsSound}
-use Rattle.bm_job.specs.Runs.{load_rows}
+use Rattle.bm_job.specs.Runs.{load_rows, run_most}
 use Rattle.sha2.specs.Sha256.{sha256}
 use Rattle.bm_drill.specs.Generated.{generated}
 
@@ -35,7 +34,7 @@ pub record SessionCounts (s : Shape) (job : Job) (passes every stops : ℕ) (r :
   pub moves : r.moves ≤ load_rows s (r.passes * loads_of s + every * r.restarts)
   pub most : r.moves ≤ 2 * stripes s * (r.passes + r.restarts)
   pub exact : r.restarts ≡ 0 → r.moves ≡ 2 * stripes s * r.passes
-  pub bound : r.bound ≡ 2 * stripes s * limit_of s job
+  pub bound : r.bound ≡ run_most s job
 
 -- And what the rack counts: these row calls, and one for each row that was loaded and for each that was hashed.
 pub record DrillCounts (s : Shape) (job : Job) (passes every stops : ℕ) (r : DrillReport) (old new : RackView) : Type 0 where

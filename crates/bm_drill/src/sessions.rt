@@ -2,7 +2,7 @@
 
 ghost use Rattle.std.specs.Prelude.{Err, ◌≡◌, ◌≢◌, ℕ, ◌+◌, ◌*◌, ◌^◌, ◌<◌, ◌≤◌, false, IsTrue, IsOk};
 ghost use Rattle.std.specs.Prelude.{IfOk, IfErr, Some, length};
-ghost use Rattle.bm_base.specs.Shape.{dims_of, stripes};
+ghost use Rattle.bm_base.specs.Shape.{dims_of};
 ghost use Rattle.bm_bufs.specs.Bufs.{FitsShape};
 ghost use Rattle.bm_forms.specs.Plan.{StandsFor};
 ghost use Rattle.bm_forms.specs.PassLimit.{limit_of};
@@ -11,7 +11,7 @@ ghost use Rattle.bm_control.specs.Bodies.{JobBodyFits};
 ghost use Rattle.bm_control.specs.Pages.{HasOpenLoad};
 ghost use Rattle.bm_control.specs.Sound.{IsSound};
 ghost use Rattle.bm_job.specs.Begins.{BeginAnswer};
-ghost use Rattle.bm_job.specs.Runs.{IsRunnable, KeepsJobs};
+ghost use Rattle.bm_job.specs.Runs.{IsRunnable, KeepsJobs, run_most};
 ghost use Rattle.bm_drill.specs.Sessions.{SessionsKeep, KeepsRest, RestartsFew, IsRefusedOnSome};
 ghost use Rattle.bm_drill.specs.Sessions.{SessionsDone};
 ghost use Rattle.bm_drill.specs.Session.{SessionKeeps, SessionAnswer, AreSessions};
@@ -74,7 +74,7 @@ pub fn run_sessions<R: StopRack>(
     ensures passes { IfOk result (λ r. (1 ≤ r.passes) × (r.passes ≤ limit_of shape.now job.now)) }
     ensures moves { IfOk result (λ r. (R.view rack.new).moves ≡ (R.view rack.old).moves + r.moves) }
     ensures most { IfOk result (λ r.
-        r.moves ≤ 2 * stripes shape.now * limit_of shape.now job.now * (r.restarts + 1)) }
+        r.moves ≤ run_most shape.now job.now * (r.restarts + 1)) }
     ensures restarts { IfOk result (λ r.
         RestartsFew (length stops.now) r.restarts (R.view rack.old) (R.view rack.new)) }
     // Where it was refused.

@@ -31,7 +31,7 @@ use Rattle.bm_control.specs.Progress.{IsGone}
 use Rattle.bm_control.specs.Sound.{IsSound}
 use Rattle.bm_control.specs.State.{StateAnswer, StateFits, HasPassBody, IsFirstBad}
 use Rattle.bm_control.specs.StateCalls.{StateCalls, StatePages}
-use Rattle.bm_control.proofs.StateCallLemmas.{reads_within}
+use Rattle.bm_control.proofs.StateCallLemmas.{reads_within, reads_wider}
 use Rattle.bm_control.proofs.EqualLemmas.{one_outcome, error_is, none_some}
 use Rattle.bm_control.proofs.ImageLemmas.{zeros_closed}
 use Rattle.bm_control.proofs.JobBodyLemmas.{limit-most}
@@ -149,9 +149,7 @@ state_most (Ok (Loaded s)) old new well fits x = reads_within 3 516 old new well
 state_most (Ok (Working s job passes done every part slot)) old new well fits (x, whole) =
     let few = limit-most s job in
     let less = fits.body.passes_few in
-    let low = x.low in
-    let high = x.high in
-    record { moves = x.moves; syncs = x.syncs; low = omega (arith, low); high = omega (arith, high, few, less) }
+    reads_wider (4 + 2 * passes) (8 + 2 * passes) 516 old new well (omega (arith, few, less)) x
 state_most (Err e) old new well fits x = x
 
 pub settled_most : {tells_stands tells_contents : Bool} (r : Result SlateState ControlError) (a b c : RackView)

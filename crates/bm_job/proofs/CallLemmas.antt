@@ -1,5 +1,6 @@
 -- Calls of a rack as those of a turn.
-use Rattle.std.proofs.Common.{◌≡◌, ℕ, ◌+◌, Bool, Result, Ok, Err, subst, arith}
+use Rattle.std.proofs.Common.{◌≡◌, ℕ, ◌+◌, Bool, Result, Ok, Err, IsOk, OnOk, subst, arith}
+use Rattle.std.proofs.lemmas.Bool.{false≢true}
 use Rattle.bm_base.specs.Contents.{RackUnit}
 use Rattle.bm_rack.specs.RackView.{RackView, IsWellFormed}
 use Rattle.bm_rack.specs.Frames.{SameState, DirtiesOnly, Keeps, HasCause, RaisesCounts, MovesRows, RackCall, MakesCalls}
@@ -10,6 +11,11 @@ use Rattle.bm_control.specs.PageCalls.{MakesPageCalls, IsSlotPage}
 -- an answer is no refusal
 pub no_refusal : {T E : Type 0} (x : T) (e : E) → ¬ (◌≡◌ {A = Result T E} (Ok x) (Err e))
 no_refusal x e is = cc
+
+-- what holds of an answer that is none
+pub holds_ok : {T E P : Type 0} (r : Result T E) → IsOk r → OnOk r P → P
+holds_ok (Ok x) ok holds = holds
+holds_ok (Err e) ok holds = absurd (false≢true ok)
 
 -- a call whose failures are among those of another
 pub cause_of : (failed other : Type 0) (old new : RackView) → (other → failed) → HasCause failed old new → HasCause other old new

@@ -1,5 +1,5 @@
 -- What stands after a run, and what it answers.
-use Rattle.std.proofs.Common.{Ok, Err, ◌≡◌, ◌≢◌, inl, inr, ℕ, ◌*◌, ◌%◌, ◌^◌, ◌<◌, ◌≤◌, List, length, replicate, slice_index, Some, refl}
+use Rattle.std.proofs.Common.{Ok, Err, ◌≡◌, ◌≢◌, inl, inr, ℕ, ◌%◌, ◌^◌, ◌<◌, ◌≤◌, List, length, replicate, slice_index, Some, refl}
 use Rattle.std.proofs.Common.{sym, ◌∙◌, ap, subst, arith}
 use Rattle.std.proofs.lemmas.List.{length-replicate}
 use Rattle.std.specs.Fork.{slice_chunk}
@@ -11,7 +11,7 @@ use Rattle.bm_base.specs.Area.{area_after}
 use Rattle.bm_base.specs.Contents.{Contents, RackUnit, block_unit, page_unit, page_at, HasSizes}
 use Rattle.bm_base.specs.Count.{raised}
 use Rattle.bm_base.specs.Records.{SameRecords, record_at}
-use Rattle.bm_base.specs.Shape.{dims_of, stripes}
+use Rattle.bm_base.specs.Shape.{dims_of}
 use Rattle.bm_forms.specs.declared.job.Job.{Job}
 use Rattle.bm_forms.specs.declared.job.Job.TheVariants.{Permute, Walsh}
 use Rattle.bm_forms.specs.Job.{meaning, HasBits}
@@ -40,7 +40,7 @@ use Rattle.bm_job.specs.Begins.{BeginAnswer, IsFresh, IsLoadedState, IsOpenState
 use Rattle.bm_job.specs.Follows.{Follows}
 use Rattle.bm_job.specs.Turns.{IsTurnRefusal}
 use Rattle.bm_job.specs.Runs.{IsJobsPage, IsWorkUnit, IsRunUnit, loads_left, load_rows, IsReportOf, RunAnswer, IsRunnable, RunDone}
-use Rattle.bm_job.specs.Runs.{KeepsJobs, KeepsOpenJob, MovesFew, IsEnd}
+use Rattle.bm_job.specs.Runs.{KeepsJobs, KeepsOpenJob, MovesFew, IsEnd, run_most}
 use Rattle.bm_job.proofs.HeldLemmas.{has_bits}
 use Rattle.bm_job.proofs.DoneLemmas.{finished_means}
 use Rattle.bm_job.proofs.WorkUnitLemmas.{front_kept}
@@ -154,7 +154,7 @@ turn_refused s job passes every old new (BadPage page) is good = absurd (good pa
 -- ---- where a job can be run
 
 -- a shape that is loaded is the one that is told
-loaded_shape : (s t : Shape) (v : Contents) (state : SlateState) → StateAnswer v (Ok state) → IsLoadedState t state → HasLoadBody s v
+pub loaded_shape : (s t : Shape) (v : Contents) (state : SlateState) → StateAnswer v (Ok state) → IsLoadedState t state → HasLoadBody s v
     → t ≡ s
 loaded_shape s t v Closed told is body = absurd is
 loaded_shape s t v (Loaded u) told is body = sym is ∙ load_unique u s (page_at v load_body) told.1 body
@@ -162,7 +162,7 @@ loaded_shape s t v (Working u job passes done every part slot) told is body = sy
     ∙ load_unique u s (page_at v load_body) told.0.load_body body
 
 -- and a job that is open
-open_job : (s : Shape) (job other : Job) (v : Contents) (state : SlateState) → StateAnswer v (Ok state) → IsOpenState other state
+pub open_job : (s : Shape) (job other : Job) (v : Contents) (state : SlateState) → StateAnswer v (Ok state) → IsOpenState other state
     → IsRunnable s job v → other ≡ job
 open_job s job other v Closed told is r = absurd is
 open_job s job other v (Loaded u) told is r = absurd is
@@ -263,17 +263,15 @@ raised_rows a b c k l same few more = omega (arith, same, few, more)
 -- the row calls are within the job's limit
 pub end_most : (s : Shape) (job : Job) (m : Machine) (old mid new : RackView) → IsFresh s job m → mid.moves ≡ old.moves
     → mid.moves ≤ new.moves → new.moves ≤ raised mid.moves (load_rows m.shape (loads_left m))
-    → MovesFew (2 * stripes s * limit_of s job) old new
+    → MovesFew (run_most s job) old new
 end_most s job m old mid new fresh moves low few =
-    let rows : load_rows m.shape (loads_left m) ≤ 2 * stripes m.shape * limit_of m.shape m.job = rows_most m.shape m.passes
+    let rows : load_rows m.shape (loads_left m) ≤ run_most m.shape m.job = rows_most m.shape m.passes
     (limit_of m.shape m.job) (loads_left m) m.keeps.passes_few (omega arith) in
-    let same : limit_of m.shape m.job ≡ limit_of s job = ap (λ (t : Shape). limit_of t m.job) fresh.shape
-    ∙ ap (λ (k : Job). limit_of s k) fresh.job_is in
-    let all : 2 * stripes m.shape * limit_of m.shape m.job ≡ 2 * stripes s * limit_of s job =
-    ap (λ (t : Shape). 2 * stripes t * limit_of m.shape m.job) fresh.shape ∙ ap (λ (k : ℕ). 2 * stripes s * k) same in
+    let all : run_most m.shape m.job ≡ run_most s job = ap (λ (t : Shape). run_most t m.job) fresh.shape
+    ∙ ap (run_most s) fresh.job_is in
     record {
       low = omega (arith, moves, low);
-      high = raised_rows old.moves mid.moves new.moves (load_rows m.shape (loads_left m)) (2 * stripes s * limit_of s job) moves few
+      high = raised_rows old.moves mid.moves new.moves (load_rows m.shape (loads_left m)) (run_most s job) moves few
           (omega (arith, rows, all));
     }
 

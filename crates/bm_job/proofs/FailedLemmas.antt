@@ -41,7 +41,7 @@ begin_failed s old new unchanged same moves well sizes = record {
 }
 
 -- more loads have more rows
-load_rows_more : (s : Shape) (a b : ℕ) → a ≤ b → load_rows s a ≤ load_rows s b
+pub load_rows_more : (s : Shape) (a b : ℕ) → a ≤ b → load_rows s a ≤ load_rows s b
 load_rows_more s a b h = mul-le-mul_left (2 * load_stripes s) h
 
 -- turns that failed

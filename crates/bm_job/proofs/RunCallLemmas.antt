@@ -111,19 +111,16 @@ pub most_run : (s : Shape) (job : Job) (m : Machine) (rows : ℕ) (succeeds : Ty
     → MakesCalls succeeds rows (turn_pages m.shape m.passes m.every) (turn_syncs m.shape m.passes m.every) b c
     → CallsFew (most_pages s job) (most_syncs s job) a c
 most_run s job m rows succeeds a b c fresh x y =
-    let limit : limit_of m.shape m.job ≡ limit_of s job = ap (λ (t : Shape). limit_of t m.job) fresh.shape
-    ∙ ap (λ (k : Job). limit_of s k) fresh.job_is in
     let few = m.keeps.passes_few in
-    let loads : loads_of m.shape ≡ loads_of s = ap loads_of fresh.shape in
-    let p = turns_few m.shape m.passes (limit_of s job) m.every 4 (omega (arith, few, limit)) m.keeps.every_some in
-    let q = turns_few m.shape m.passes (limit_of s job) m.every 3 (omega (arith, few, limit)) m.keeps.every_some in
-    let p' : limit_of s job * (2 + 4 * (loads_of m.shape - 1)) ≡ limit_of s job * (2 + 4 * (loads_of s - 1)) = ap
-    (λ (k : ℕ). limit_of s job * (2 + 4 * (k - 1))) loads in
-    let q' : limit_of s job * (2 + 3 * (loads_of m.shape - 1)) ≡ limit_of s job * (2 + 3 * (loads_of s - 1)) = ap
-    (λ (k : ℕ). limit_of s job * (2 + 3 * (k - 1))) loads in
+    let p = turns_few m.shape m.passes (limit_of m.shape m.job) m.every 4 few m.keeps.every_some in
+    let q = turns_few m.shape m.passes (limit_of m.shape m.job) m.every 3 few m.keeps.every_some in
+    let pages : most_pages m.shape m.job ≡ most_pages s job = ap (λ (t : Shape). most_pages t m.job) fresh.shape
+    ∙ ap (most_pages s) fresh.job_is in
+    let syncs : most_syncs m.shape m.job ≡ most_syncs s job = ap (λ (t : Shape). most_syncs t m.job) fresh.shape
+    ∙ ap (most_syncs s) fresh.job_is in
     record {
       pages_low = omega (arith, x.pages_low, y.pages_low);
-      pages_high = omega (arith, x.pages_high, y.pages_high, p, p');
+      pages_high = omega (arith, x.pages_high, y.pages_high, p, pages);
       syncs_low = omega (arith, x.syncs_low, y.syncs_low);
-      syncs_high = omega (arith, x.syncs_high, y.syncs_high, q, q');
+      syncs_high = omega (arith, x.syncs_high, y.syncs_high, q, syncs);
     }

@@ -31,7 +31,7 @@ use Rattle.bm_job.proofs.WorkUnitLemmas.{turn_work, body_kept}
 raised_sum : (a b c k j total : ℕ) → b ≡ raised a k → c ≡ raised b j → k + j ≡ total → c ≡ raised a total
 raised_sum a b c k j total first second room = omega (arith, first, second, room)
 
-raised_most : (a b k total : ℕ) → b ≤ raised a k → k ≤ total → b ≤ raised a total
+pub raised_most : (a b k total : ℕ) → b ≤ raised a k → k ≤ total → b ≤ raised a total
 raised_most a b k total first room = omega (arith, first, room)
 
 -- the input is the same after two calls

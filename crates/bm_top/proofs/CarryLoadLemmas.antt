@@ -12,13 +12,14 @@ use Rattle.bm_rack.specs.Image.{InEveryImage}
 use Rattle.bm_rack.specs.Frames.{RackCall, MakesCalls}
 use Rattle.bm_rack.specs.Sink.{AppendsFront}
 use Rattle.bm_rack.proofs.FrameLemmas.{Keeps-trans}
+use Rattle.bm_control.specs.Closing.{IsShut}
 use Rattle.bm_control.specs.Pages.{job_gate}
 use Rattle.bm_control.specs.Sound.{IsSound}
 use Rattle.bm_control.proofs.ImageLemmas.{zeros_closed}
 use Rattle.bm_disks.specs.declared.load_error.LoadError.{LoadError}
 use Rattle.bm_disks.specs.declared.load_error.LoadError.TheVariants as load
 use Rattle.bm_disks.specs.Input.{IsRead, EndsAfter, GoesOnAfter, InputAnswer, IsInputRefusal}
-use Rattle.bm_disks.specs.Loading.{AreGatesClosed, HasLoad, HoldsInput, IsLoadingUnit, IsShut, OpensWhole}
+use Rattle.bm_disks.specs.Loading.{AreGatesClosed, HasLoad, HoldsInput, IsLoadingUnit, OpensWhole}
 use Rattle.bm_top.specs.Causes.{CauseOf}
 use Rattle.bm_top.specs.DiskStatus.{load_status}
 use Rattle.bm_top.specs.Exits.{CallsGrow}

@@ -1,5 +1,5 @@
 -- What the run of a job says, from the moment of the attach to the moment before it.
-use Rattle.std.proofs.Common.{◌≡◌, inl, inr, ⊎_elim, ℕ, ◌+◌, ◌-◌, ◌*◌, ◌^◌, ◌≤◌, IsTrue, Result, IfOk, IfErr, IsErrOf, IsOkUnless, sym, ap}
+use Rattle.std.proofs.Common.{◌≡◌, inl, inr, ⊎_elim, ℕ, ◌+◌, ◌-◌, ◌^◌, ◌≤◌, IsTrue, Result, IfOk, IfErr, IsErrOf, IsOkUnless, sym, ap}
 use Rattle.std.proofs.Common.{subst, ◌∙◌, arith}
 use Rattle.bm_base.specs.declared.report.RunReport.{RunReport}
 use Rattle.bm_base.specs.declared.shape.Shape.{Shape}
@@ -7,10 +7,9 @@ use Rattle.bm_base.specs.Area.{area_after}
 use Rattle.bm_base.specs.Contents.{Contents, page_at}
 use Rattle.bm_base.specs.Count.{raised}
 use Rattle.bm_base.specs.Records.{record_at, SameRecords}
-use Rattle.bm_base.specs.Shape.{dims_of, stripes}
+use Rattle.bm_base.specs.Shape.{dims_of}
 use Rattle.bm_forms.specs.declared.job.Job.{Job}
 use Rattle.bm_forms.specs.Job.{meaning}
-use Rattle.bm_forms.specs.PassLimit.{limit_of}
 use Rattle.bm_rack.specs.RackView.{RackView}
 use Rattle.bm_rack.specs.Frames.{SameDisks, RackCall}
 use Rattle.bm_rack.specs.Image.{InEveryImage, SameInput}
@@ -20,7 +19,7 @@ use Rattle.bm_control.specs.Sound.{IsSound}
 use Rattle.bm_job.specs.declared.answers.RunError.{RunError}
 use Rattle.bm_job.specs.declared.answers.RunError.TheVariants as run
 use Rattle.bm_job.specs.Runs.{most_pages, most_syncs, RunAnswer, ReportFits, RefusalKeeps, RunDone, RunFailed, RunCalls, CallsFew}
-use Rattle.bm_job.specs.Runs.{KeepsJobs, KeepsOpenJob, HasOpenBody, MovesFew, load_rows, IsRunUnit, IsRunnable}
+use Rattle.bm_job.specs.Runs.{KeepsJobs, KeepsOpenJob, HasOpenBody, MovesFew, load_rows, run_most, IsRunUnit, IsRunnable}
 use Rattle.bm_top.specs.Exits.{CallsGrow, AttachedFrom}
 use Rattle.bm_top.specs.Moment.{Tells}
 use Rattle.bm_top.specs.declared.task.Task.{Task}
@@ -30,7 +29,7 @@ pub record Ran (t : Tells) (task : Task) (plan : ℕ) (old new : RackView) (resu
   pub answer : IsTrue t.contents → RunAnswer task.shape task.job plan task.every old new result
   pub report : IfOk result (λ r. ReportFits task.shape task.job r)
   pub moves : IfOk result (λ r. new.moves ≡ raised old.moves r.moves)
-  pub most : MovesFew (2 * stripes task.shape * limit_of task.shape task.job) old new
+  pub most : MovesFew (run_most task.shape task.job) old new
   pub few : CallsFew (most_pages task.shape task.job) (most_syncs task.shape task.job) old new
   pub kept : IfErr result (λ e. RefusalKeeps old new e)
   pub done : IsTrue t.stands → IsTrue t.contents → IsSound old → IfOk result (λ r. RunDone task.shape task.job plan task.every r old new)

@@ -1,17 +1,16 @@
 -- The command `run`: it does the job to the records that are loaded, or goes on with it.
-use Rattle.std.specs.Prelude.{◌≡◌, ◌⊎◌, ℕ, ◌*◌, ◌^◌, ◌<◌, ◌++◌, IsTrue, Some}
+use Rattle.std.specs.Prelude.{◌≡◌, ◌⊎◌, ℕ, ◌^◌, ◌<◌, ◌++◌, IsTrue, Some}
 use Rattle.bm_base.specs.declared.area.Area.TheVariants.{Input}
 use Rattle.bm_base.specs.declared.report.RunReport.{RunReport}
 use Rattle.bm_base.specs.Area.{area_after}
 use Rattle.bm_base.specs.Contents.{RackUnit}
 use Rattle.bm_base.specs.Count.{raised}
 use Rattle.bm_base.specs.Records.{record_at}
-use Rattle.bm_base.specs.Shape.{dims_of, stripes}
+use Rattle.bm_base.specs.Shape.{dims_of}
 use Rattle.bm_gf2.specs.Affine.{affine_image}
 use Rattle.bm_gf2.specs.declared.affine.Affine.{Affine}
 use Rattle.bm_forms.specs.declared.job.Job.TheVariants.{Permute}
 use Rattle.bm_forms.specs.PassCount.{passes_of}
-use Rattle.bm_forms.specs.PassLimit.{limit_of}
 use Rattle.bm_rack.specs.RackView.{RackView}
 use Rattle.bm_rack.specs.Image.{SameInput, InEveryImage}
 use Rattle.bm_rack.specs.Sink.{AppendsFront}
@@ -19,7 +18,7 @@ use Rattle.bm_rack.specs.Frames.{SameCalls, SameDisks}
 use Rattle.bm_control.specs.Pages.{HasOpenJob}
 use Rattle.bm_control.specs.Sound.{IsSound}
 use Rattle.bm_job.specs.Runs.{most_pages, most_syncs, CallsFew, ReportFits, IsReportOf, RunDone, RunFailed, RunCalls, KeepsJobs}
-use Rattle.bm_job.specs.Runs.{KeepsOpenJob, MovesFew, SameContents, IsRunnable, IsRunUnit}
+use Rattle.bm_job.specs.Runs.{KeepsOpenJob, MovesFew, SameContents, IsRunnable, IsRunUnit, run_most}
 use Rattle.bm_text.specs.ReportText.{report_text}
 use Rattle.bm_top.specs.Exits.{KeepsUnits}
 use Rattle.bm_top.specs.Moment.{Devices, Tells, TellsRack}
@@ -49,7 +48,7 @@ plan_of task = passes_of task.shape task.job
 
 -- the parallel transfers that a job never exceeds: 2N/BD for each pass of the pass limit
 abbrev pub bound_of : Task → ℕ
-bound_of task = 2 * stripes task.shape * limit_of task.shape task.job
+bound_of task = run_most task.shape task.job
 
 -- The headline. The run began on a sound rack with the shape loaded, and no job or this one open, whatever stops came before; that is what
 -- `RunDone` presumes of a run that ends well. Then each record x of the input stands at Ax + c of the area of the last pass, or has there

@@ -1,4 +1,4 @@
-use Rattle.std.proofs.Common.{ℕ, OnOk, refl, ap, sym, ◌∙◌, subst}
+use Rattle.std.proofs.Common.{ℕ, refl, ap, sym, ◌∙◌, subst}
 use Rattle.std.proofs.lemmas.Result.{on_ok_weaker}
 use Rattle.bm_base.specs.Contents.{Contents, page_at}
 use Rattle.bm_rack.specs.Calls.{IsPage}
@@ -32,12 +32,6 @@ returns-clause-closed g c told =
     (λ (taken : IsZeroPage (page_at (g.R.Rack.view c.write_page_durably.new.rack).contents c.slot_gate-2.result)).
     zeros_closed _ (ap (page_at (g.R.Rack.view c.write_page_durably.new.rack).contents) (sym c.slot_gate-2.ensures) ∙ taken))
     (c.write_page_durably.ensures.taken told)
-
-pub returns-clause-zeros : goal.returns-clause-zeros
-returns-clause-zeros g c told opened =
-    subst (λ (page : ℕ). OnOk c.write_page_durably.result
-    (IsZeroPage (page_at (g.R.Rack.view c.write_page_durably.new.rack).contents page)))
-    c.slot_gate-2.ensures (c.write_page_durably.ensures.taken told)
 
 pub returns-clause-from_open : goal.returns-clause-from_open
 returns-clause-from_open g c told opened =

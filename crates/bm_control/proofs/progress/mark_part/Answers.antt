@@ -5,6 +5,7 @@ use Rattle.bm_rack.specs.Calls.{IsPage}
 use Rattle.bm_rack.specs.Frames.{DirtiesOnly}
 use Rattle.bm_control.proofs.MomentLemmas.{sound_writing_part, sound_marking}
 use Rattle.bm_control.proofs.progress.mark_part.Goals as goal
+use Rattle.bm_control.specs.Closing.{IsShut}
 use Rattle.bm_control.specs.Pages.{slot_body, slot_gate}
 
 pub returns-in_err-write_page_durably-clause-sound : goal.returns-in_err-write_page_durably-clause-sound
@@ -45,6 +46,13 @@ returns-clause-sound g c told_stands told_contents sound clean part =
     sound_marking c.args.slot c.args.pass c.args.loads s _ _ _ _ dims c.requires.slot c.requires.fits stands_2
     (fits_2.sizes told_stands told_contents dims stands_2)
     sound_2 c.in_ok-write_page_durably.ensures.clean part first second body third
+
+pub returns-in_err-write_page_durably-clause-closed : goal.returns-in_err-write_page_durably-clause-closed
+returns-in_err-write_page_durably-clause-closed g c told clean closed =
+    subst (IsShut (page_at (g.R.Rack.view c.args.rack.now).contents (slot_gate c.args.slot)))
+    (sym (c.write_page_durably.ensures.call.frame.contents (page_unit (slot_gate c.args.slot))
+    (λ e. omega (arith, e, c.slot_body.ensures))))
+    (c.in_ok-close_slot.ensures.shut told)
 
 pub returns-clause-body : goal.returns-clause-body
 returns-clause-body g c told =

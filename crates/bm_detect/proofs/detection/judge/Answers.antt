@@ -1,5 +1,6 @@
 use Rattle.std.proofs.Common.{◌^◌}
-use Rattle.bm_detect.proofs.AnswerLemmas.{judged_map, judged_singular, no_first}
+use Rattle.bm_detect.proofs.AnswerLemmas.{judged_map, judged_singular}
+use Rattle.bm_detect.proofs.ScanLemmas.{no_first}
 use Rattle.bm_detect.proofs.detection.judge.Goals as goal
 
 pub returns-in-Some-kernel_least-clause-answer : goal.returns-in-Some-kernel_least-clause-answer

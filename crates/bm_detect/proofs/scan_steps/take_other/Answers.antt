@@ -1,6 +1,8 @@
-use Rattle.std.proofs.Common.{◌≡◌, ◌+◌, refl, sym, ◌∙◌, arith}
+use Rattle.std.proofs.Common.{◌≡◌, ◌+◌, refl, sym, ap, ◌∙◌, arith}
+use Rattle.std.proofs.lemmas.Bool.{false≢true}
+use Rattle.std.specs.Option.{is_some}
 use Rattle.bm_detect.specs.Candidate.{candidate}
-use Rattle.bm_detect.proofs.ScanLemmas.{addresses_more, first_more, value_known, none_first}
+use Rattle.bm_detect.proofs.ScanLemmas.{addresses_more, first_more, value_known, no_first}
 use Rattle.bm_detect.proofs.scan_steps.take_other.Goals as goal
 
 pub returns-then-y-want-clause-knows : goal.returns-then-y-want-clause-knows
@@ -33,7 +35,7 @@ returns-clause-knows c ys is knows =
           number = sym is;
           value = c.apply-want.ensures.value ∙ known;
           apart = c.if-y-want.false;
-          before = none_first n x ys c.args.scan.first c.if-is_some.ensures knows.first;
+          before = no_first n x ys c.args.scan.first (λ d is. false≢true (c.if-is_some.ensures ∙ ap is_some is)) knows.first;
         },
       );
     }

@@ -2,7 +2,8 @@ use Rattle.std.proofs.Common.{◌≡◌, ℕ, List, refl, sym, ◌∙◌, ap, su
 use Rattle.bm_base.specs.Contents.{Contents, page_unit, page_at}
 use Rattle.bm_rack.specs.Calls.{IsPage}
 use Rattle.bm_control.proofs.SoundLemmas.{sound_synced}
-use Rattle.bm_disks.specs.Loading.{IsShut, IsClosing}
+use Rattle.bm_control.specs.Closing.{IsShut}
+use Rattle.bm_disks.specs.Loading.{IsClosing}
 use Rattle.bm_disks.proofs.GateLemmas.{shut_closed, on_ok, shut_counts, load_shut_within, load_shut_synced}
 use Rattle.bm_disks.proofs.gate_closing.shut_gates.Goals as goal
 

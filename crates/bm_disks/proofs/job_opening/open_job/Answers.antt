@@ -1,8 +1,9 @@
 use Rattle.std.proofs.Common.{Err, ap}
 use Rattle.bm_rack.proofs.FrameLemmas.{HasCause-later}
 use Rattle.bm_control.proofs.SoundLemmas.{sound_synced, sound_same}
+use Rattle.bm_job.proofs.BeginLemmas.{settled_most}
 use Rattle.bm_disks.proofs.OpenLemmas.{answer_refused, answer_read, answer_good, answer_complete, answer_means, consistent_of, failed_of}
-use Rattle.bm_disks.proofs.OpenLemmas.{never_failed, look_counts}
+use Rattle.bm_disks.proofs.OpenLemmas.{never_failed}
 use Rattle.bm_disks.proofs.job_opening.open_job.Goals as goal
 
 pub returns-in_err-sync-clause-sound : goal.returns-in_err-sync-clause-sound
@@ -54,6 +55,6 @@ returns-clause-sound g c sound = sound_same _ _ c.read_state.ensures.state (soun
 
 pub returns-clause-counts : goal.returns-clause-counts
 returns-clause-counts g c =
-    look_counts _ _ _ _ (g.met.R.Rack.consistent c.args.rack.now) (g.met.R.Rack.consistent c.sync.new.self) c.in_ok-state.ensures.fits
-    c.sync.ensures.counts
-    c.in_ok-state.ensures.counts
+    settled_most _ _ _ _ (g.met.R.Rack.consistent c.args.rack.now) (g.met.R.Rack.consistent c.sync.new.self) c.sync.ensures.counts
+    c.read_state.ensures.fits
+    c.read_state.ensures.counts

@@ -1,7 +1,8 @@
 use Rattle.std.proofs.Common.{◌∙◌, arith}
 use Rattle.bm_base.proofs.CaseLemmas.{ok_of_no_error}
 use Rattle.bm_control.specs.Pages.{load_gate, job_gate}
-use Rattle.bm_drill.proofs.DrillLemmas.{on_ok, gate_closed, generated_loaded}
+use Rattle.bm_job.proofs.CallLemmas.{holds_ok}
+use Rattle.bm_drill.proofs.DrillLemmas.{gate_closed, generated_loaded}
 use Rattle.bm_drill.proofs.drill_steps.load_generated.Goals as goal
 
 pub returns-clause-loaded : goal.returns-clause-loaded
@@ -18,5 +19,6 @@ returns-clause-loaded g c =
     (gate_closed tc s (view c.args.rack.now) (view c.write_input.new.rack) load_gate (omega arith) told made only)
     (gate_closed tc s (view c.args.rack.now) (view c.write_input.new.rack) job_gate (omega arith) told made only) in
     generated_loaded tc s c.args.start _ (view c.args.rack.now) (view c.write_input.new.rack) (view c.open_load.new.rack) told made only
-    (c.write_input.ensures.records told wrote) c.open_load.ensures.call sound (on_ok c.open_load.result c.open_load.ensures.clean opened)
-    (on_ok c.open_load.result (c.open_load.ensures.opened told) opened) (on_ok c.open_load.result (c.open_load.ensures.body told) opened)
+    (c.write_input.ensures.records told wrote) c.open_load.ensures.call sound (holds_ok c.open_load.result opened c.open_load.ensures.clean)
+    (holds_ok c.open_load.result opened (c.open_load.ensures.opened told))
+    (holds_ok c.open_load.result opened (c.open_load.ensures.body told))
