@@ -6,3 +6,4 @@ pub mod EqualLemmas
 pub mod CaseLemmas
 pub mod AreaLemmas
 pub mod CountLemmas
+pub mod PowerLemmas

@@ -10,6 +10,7 @@ use Rattle.std.proofs.lemmas.Bool.{cases_lt}
 use Rattle.std.proofs.Math.Nat.{mod-lt, mod-eq_of_lt, mod-add-div', mul-le-mul_right, add-mul}
 use Rattle.std.proofs.Math.Pow.{shr_lt, pow_mono}
 use Rattle.bm_base.proofs.ChunkLemmas.{chunk_of_part}
+use Rattle.bm_base.proofs.PowerLemmas.{cut_below}
 use Rattle.bm_gf2.specs.declared.matrix.Matrix.{Matrix}
 use Rattle.bm_gf2.specs.Matrix.{column, image, IsNonsingular}
 use Rattle.bm_gf2.specs.Vector.{xor_sum}
@@ -168,10 +169,6 @@ run_of_sum first r size some none =
           ∙ mod-mul-add (first / size + r / size) size (r % size) (mod-lt r some),
     )
 
--- a number below 2 ^ n has one of 2 ^ (n - low) runs
-pub run_inside : (x n low : ℕ) → low ≤ n → x < 2 ^ n → x / 2 ^ low < 2 ^ (n - low)
-run_inside x n low few short = shr_lt (n - low) low (subst (λ k. x < 2 ^ k) (let e : n ≡ n - low + low = omega arith in e) short)
-
 -- records that are placed run by run are placed one by one
 pub PlacesRecords-runs : (a runs : Matrix) (plus low width first count : ℕ) (row old new : List ℕ) → KeepsRuns a plus low
     → IsRunMatrix a low runs
@@ -194,7 +191,7 @@ PlacesRecords-runs a runs plus low width first count row old new keeps is first_
           ∙ ap (slice_chunk row width) (let e : r / size * size + r % size ≡ r = omega arith in e);
       others = λ x inside apart.
           let run : x / size < 2 ^ runs.n =
-          subst (λ k. x / size < 2 ^ k) (sym is.size) (run_inside x a.n low (omega (arith, keeps.inside)) inside) in
+          subst (λ k. x / size < 2 ^ k) (sym is.size) (cut_below a.n low x (omega (arith, keeps.inside)) inside) in
           let away : (x / size < first / size) ⊎ (first / size + count / size ≤ x / size) = ⊎_elim
           (λ (p : x < first). inl (run_below x first size some first_whole p))
           (λ (p : first + count ≤ x).

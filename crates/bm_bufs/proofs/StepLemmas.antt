@@ -10,6 +10,7 @@ use Rattle.std.proofs.Math.Nat.{mod-add-div', two-pow-succ}
 use Rattle.bm_gf2.specs.Vector.{xor_sum}
 use Rattle.bm_gf2.proofs.VectorLemmas.{xor_same, xor_cancel, xor_sum-xor, xor_sum-pow, xor_sum-none, xor_sum-zero}
 use Rattle.bm_gf2.proofs.StepperLemmas.{xor_next, trailing_place}
+use Rattle.bm_gf2.proofs.ShiftLemmas.{xor_shl}
 use Rattle.bm_bufs.specs.TileMoves.{IsStepTable}
 use Rattle.bm_bufs.proofs.RunLemmas.{first_clear}
 
@@ -22,22 +23,12 @@ ones_more t =
     (let e : 2 ^ (t + 1) - 1 ≡ 1 * 2 ^ t + (2 ^ t - 1) = omega arith in e)
     ∙ sym sum ∙ ap (λ c. bit_xor c (2 ^ t - 1)) (let e : 1 * 2 ^ t ≡ 2 ^ t = omega arith in e)
 
--- a shift of a sum is the sum of the shifts
-xor_shl : (a b k : ℕ) → bit_xor (a * 2 ^ k) (b * 2 ^ k) ≡ bit_xor a b * 2 ^ k
-xor_shl a b k =
-    let whole = bit_xor (a * 2 ^ k) (b * 2 ^ k) in
-    let lows : whole % 2 ^ k ≡ 0 = xor_mod (a * 2 ^ k) (b * 2 ^ k) k ∙ xor_same (first_clear a k) (first_clear b k) ∙ xor_self 0 in
-    let highs : whole / 2 ^ k ≡ bit_xor a b = xor_shr (a * 2 ^ k) (b * 2 ^ k) k ∙ xor_same (shl-shr a k) (shl-shr b k) in
-    let parts : whole % 2 ^ k + whole / 2 ^ k * 2 ^ k ≡ whole = mod-add-div' whole (2 ^ k) in
-    let same : whole / 2 ^ k * 2 ^ k ≡ bit_xor a b * 2 ^ k = ap (λ x. x * 2 ^ k) highs in
-    omega arith
-
 -- t + 1 ones pick what t ones pick, and what the bit above them picks
 sum_more : (w : ℕ → ℕ) (n s t : ℕ)
     → xor_sum w n ((2 ^ (t + 1) - 1) * 2 ^ s) ≡ bit_xor (xor_sum w n ((2 ^ t - 1) * 2 ^ s)) (xor_sum w n (2 ^ (s + t)))
 sum_more w n s t =
     ap (λ x. xor_sum w n (x * 2 ^ s)) (ones_more t)
-    ∙ ap (xor_sum w n) (sym (xor_shl (2 ^ t) (2 ^ t - 1) s))
+    ∙ ap (xor_sum w n) (xor_shl (2 ^ t) (2 ^ t - 1) s)
     ∙ xor_sum-xor w n (2 ^ t * 2 ^ s) ((2 ^ t - 1) * 2 ^ s)
     ∙ xor_comm (xor_sum w n (2 ^ t * 2 ^ s)) (xor_sum w n ((2 ^ t - 1) * 2 ^ s))
     ∙ ap (λ x. bit_xor (xor_sum w n ((2 ^ t - 1) * 2 ^ s)) (xor_sum w n x))
@@ -83,7 +74,7 @@ next_sum w n s r table is short =
     let next : bit_xor r (2 ^ (t + 1) - 1) ≡ r + 1 = ap (bit_xor r) (sym (xor_next t r ones.1 ones.2)) ∙ xor_cancel r (r + 1) in
     ap (bit_xor (xor_sum w n (r * 2 ^ s))) (is t (has_entry r short))
     ∙ sym (xor_sum-xor w n (r * 2 ^ s) ((2 ^ (t + 1) - 1) * 2 ^ s))
-    ∙ ap (xor_sum w n) (xor_shl r (2 ^ (t + 1) - 1) s ∙ ap (λ x. x * 2 ^ s) next)
+    ∙ ap (xor_sum w n) (sym (xor_shl r (2 ^ (t + 1) - 1) s) ∙ ap (λ x. x * 2 ^ s) next)
 
 -- the same with a constant
 pub next_affine : (w : ℕ → ℕ) (n s r c : ℕ) (table : List ℕ) → IsStepTable w s n table → r < 2 ^ 52

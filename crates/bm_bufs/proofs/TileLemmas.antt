@@ -14,13 +14,15 @@ use Rattle.bm_gf2.specs.Matrix.{image, column, IsNonsingular}
 use Rattle.bm_gf2.specs.Vector.{xor_sum}
 use Rattle.bm_gf2.proofs.VectorLemmas.{xor_sum-mod, xor_sum-shr, xor_sum-ext, xor_sum-units, xor_sum-xor, xor_sum-above, xor_sum-lt}
 use Rattle.bm_gf2.proofs.VectorLemmas.{xor_same}
+use Rattle.bm_gf2.proofs.ShiftLemmas.{image_below}
 use Rattle.bm_bufs.specs.declared.tile_map.TileMap.{TileMap}
 use Rattle.bm_bufs.specs.Tiles.{origin, HasRunBasis, KeepsTiles}
 use Rattle.bm_bufs.specs.Places.{places_by}
 use Rattle.bm_bufs.specs.TileMoves.{FillsRun}
 use Rattle.bm_bufs.proofs.PlacesLemmas.{places_by-injective}
 use Rattle.bm_bufs.proofs.StepLemmas.{few_picked, four_numbers}
-use Rattle.bm_bufs.proofs.RunLemmas.{first_clear, run_count, run_inside, chunk_copied}
+use Rattle.bm_bufs.proofs.RunLemmas.{first_clear, run_count, chunk_copied}
+use Rattle.bm_base.proofs.PowerLemmas.{cut_below}
 
 -- a number from its run and its place there
 parts : (z low : ℕ) → z / 2 ^ low * 2 ^ low + z % 2 ^ low ≡ z
@@ -76,10 +78,6 @@ low_column b plus tile j keeps inside small =
 pub low_below : (b : Matrix) (plus tile low j : ℕ) → KeepsTiles b plus tile → low ≤ tile → tile ≤ b.n → xor_sum (column b) low j < 2 ^ tile
 low_below b plus tile low j keeps inside few = xor_sum-lt (column b) low tile j
     (λ i below. low_column b plus tile i keeps (omega arith) (omega arith))
-
--- an image has as few bits
-image_below : (b : Matrix) (x : ℕ) → image b x < 2 ^ b.n
-image_below b x = xor_sum-lt (column b) b.n b.n x b.below
 
 -- so has an origin
 pub origin_below : (b : Matrix) (plus tile z : ℕ) → KeepsTiles b plus tile → tile ≤ b.n → origin b plus z < 2 ^ b.n
@@ -150,7 +148,7 @@ pub in_tile : (z tile low o : ℕ) → low ≤ tile → z / 2 ^ tile ≡ o
 in_tile z tile low o few is =
     let run : z / 2 ^ low ≡ o * 2 ^ (tile - low) + z % 2 ^ tile / 2 ^ low = tile_run z tile low few
     ∙ ap (λ x. x * 2 ^ (tile - low) + z % 2 ^ tile / 2 ^ low) is in
-    let inside = run_inside (z % 2 ^ tile) tile low few (mod-lt z (pow_pos tile)) in
+    let inside = cut_below tile low (z % 2 ^ tile) few (mod-lt z (pow_pos tile)) in
     (omega arith, omega arith)
 
 -- the runs of the others
@@ -158,7 +156,7 @@ pub out_of_tile : (z tile low o : ℕ) → low ≤ tile → (z / 2 ^ tile < o) �
     → (z / 2 ^ low < o * 2 ^ (tile - low)) ⊎ (o * 2 ^ (tile - low) + 2 ^ (tile - low) ≤ z / 2 ^ low)
 out_of_tile z tile low o few other =
     let run = tile_run z tile low few in
-    let inside = run_inside (z % 2 ^ tile) tile low few (mod-lt z (pow_pos tile)) in
+    let inside = cut_below tile low (z % 2 ^ tile) few (mod-lt z (pow_pos tile)) in
     let own = z / 2 ^ tile in
     ⊎_elim
     (λ (p : own < o). let room : (own + 1) * 2 ^ (tile - low) ≤ o * 2 ^ (tile - low) =
@@ -197,7 +195,7 @@ place_fits b low r runs few short =
     let end = run_end r b.n low few short in
     let clear : at % 2 ^ low ≡ 0 = low_rows b low (r * 2 ^ low) runs (omega arith) ∙ first_clear r low in
     let p = parts at low in
-    let run : at / 2 ^ low < 2 ^ (b.n - low) = run_inside at b.n low few (image_below b (r * 2 ^ low)) in
+    let run : at / 2 ^ low < 2 ^ (b.n - low) = cut_below b.n low at few (image_below b (r * 2 ^ low)) in
     let room = run_end (at / 2 ^ low) b.n low few run in
     (omega arith, omega arith)
 
@@ -224,7 +222,7 @@ gathered m w o load row inside runs z is =
     let r = o * 2 ^ (m.tile - m.low) + k in
     let at = image m.basis (r * 2 ^ m.low) in
     let small : j < 2 ^ m.low = mod-lt (z % 2 ^ m.tile) (pow_pos m.low) in
-    let run : k < 2 ^ (m.tile - m.low) = run_inside (z % 2 ^ m.tile) m.tile m.low m.low_in (mod-lt z (pow_pos m.tile)) in
+    let run : k < 2 ^ (m.tile - m.low) = cut_below m.tile m.low (z % 2 ^ m.tile) m.low_in (mod-lt z (pow_pos m.tile)) in
     let number : z / 2 ^ m.low ≡ r = tile_run z m.tile m.low m.low_in ∙ ap (λ x. x * 2 ^ (m.tile - m.low) + k) is in
     let again = low_again z m.tile m.low m.low_in in
     let p : z / 2 ^ m.low * 2 ^ m.low + z % 2 ^ m.low ≡ z = parts z m.low in

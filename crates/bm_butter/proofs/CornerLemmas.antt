@@ -9,9 +9,10 @@ use Rattle.std.proofs.Math.Pow.{pow_mono}
 use Rattle.std.specs.Int.{bit_at}
 use Rattle.bm_butter.specs.Pairs.{AreHalves}
 use Rattle.bm_butter.specs.Groups.{pick, AreTold, AreCorners, IsCorner, GroupsDone, spread, spread_two, corner_place, run_place}
-use Rattle.bm_butter.proofs.SpreadLemmas.{squeeze_two, squeeze_two-told, spread_two-lt, split_blocks, join_blocks, two_halves}
+use Rattle.bm_butter.proofs.SpreadLemmas.{squeeze_two, squeeze_two-told, spread_two-lt, split_blocks, join_blocks}
 use Rattle.bm_butter.proofs.SpreadLemmas.{twice_as_many}
 use Rattle.bm_butter.proofs.FourLemmas.{by_four}
+use Rattle.bm_base.proofs.PowerLemmas.{two_halves}
 
 -- the group of a place is told
 pub corner_group : (low high p q r s w t : ℕ) → low < high → AreCorners low high p q r s → t < 4

@@ -21,17 +21,6 @@ use Rattle.bm_butter.proofs.SpreadLemmas.{squeeze_two, squeeze_two-lt, spread_tw
 use Rattle.bm_butter.proofs.GroupLemmas.{IsGroup-same, SameRecords-groups}
 use Rattle.bm_butter.proofs.NumberLemmas.{first_of_group, corner_blocks}
 
--- equal units are of one row
-pub same_unit : (h k : ℕ) → 2 ^ h ≡ 2 ^ k → h ≡ k
-same_unit h k same =
-    ⊎_elim
-    (λ (p : h ≡ k). p)
-    (λ (p : h ≢ k).
-    let one = bit_at-pow_same h in
-    let none : bit_at (2 ^ h) h ≡ 0 = ap (λ c. bit_at c h) same ∙ bit_at-pow_other k h p in
-    absurd (omega arith))
-    (cases_eq h k)
-
 -- the places of a pair, u at the one where bit h is that of plus
 pub record HoldHalves (plus h at_u at_v : ℕ) : Type 0 where
   pub upright : bit_at plus h ≡ 0 → (at_u ≡ 0) × (at_v ≡ 2 ^ h)

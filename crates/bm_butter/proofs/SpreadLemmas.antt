@@ -6,6 +6,7 @@ use Rattle.std.proofs.lemmas.Nat.{pow_pos, pow-add, mod-pow-add, div-mul-add, mo
 use Rattle.std.proofs.lemmas.Nat.Bits.{bit_at-lt, bit_at_cat_low}
 use Rattle.std.proofs.Math.Nat.{two-pow-succ, add-mul, mul-add, mod-lt, mod-add-div', mul-le-mul_right}
 use Rattle.bm_base.proofs.ButterflyLemmas.{set_below}
+use Rattle.bm_base.proofs.PowerLemmas.{two_halves}
 use Rattle.bm_gf2.proofs.VectorLemmas.{bit_of_low}
 use Rattle.bm_butter.specs.Groups.{spread, spread_two}
 
@@ -16,10 +17,6 @@ squeeze i x = x / 2 ^ (i + 1) * 2 ^ i + x % 2 ^ i
 -- x without its bits low and high, low < high
 abbrev pub squeeze_two : ℕ → ℕ → ℕ → ℕ
 squeeze_two low high x = squeeze low (squeeze high x)
-
--- the next power of two
-pub two_halves : (i : ℕ) → 2 ^ (i + 1) ≡ 2 ^ i + 2 ^ i
-two_halves i = ap (λ c. 2 ^ c) (let e : i + 1 ≡ suc i = omega arith in e) ∙ two-pow-succ i
 
 -- so many blocks of it
 pub twice_as_many : (q i : ℕ) → q * 2 ^ (i + 1) ≡ q * 2 ^ i + q * 2 ^ i

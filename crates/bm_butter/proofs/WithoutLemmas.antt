@@ -8,7 +8,8 @@ use Rattle.std.proofs.Math.Nat.{mod-lt, mod-add-div'}
 use Rattle.bm_gf2.specs.Vector.{xor_sum}
 use Rattle.bm_gf2.proofs.VectorLemmas.{xor_same, xor_sum-ext, xor_sum-bits, xor_sum-above, bit_of_low, zero_times}
 use Rattle.bm_butter.specs.Groups.{spread}
-use Rattle.bm_butter.proofs.SpreadLemmas.{spread_bit, two_halves, twice_as_many}
+use Rattle.bm_butter.proofs.SpreadLemmas.{spread_bit, twice_as_many}
+use Rattle.bm_base.proofs.PowerLemmas.{two_halves}
 
 -- the blocks of a number with a clear bit put in
 spread_blocks : (i z : ℕ) → spread i z ≡ z / 2 ^ i * 2 ^ (i + 1) + z % 2 ^ i

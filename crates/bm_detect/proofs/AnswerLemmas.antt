@@ -11,7 +11,7 @@ use Rattle.bm_gf2.specs.Matrix.{column, image, IsNonsingular}
 use Rattle.bm_gf2.specs.Kernel.{IsLeastKernel}
 use Rattle.bm_gf2.specs.Affine.{affine_image}
 use Rattle.bm_gf2.proofs.VectorLemmas.{xor_same, xor_cancel, xor_sum-zero, xor_sum-pow, xor_sum-ext}
-use Rattle.bm_rank.proofs.RowCutLemmas.{image_below}
+use Rattle.bm_gf2.proofs.ShiftLemmas.{image_below}
 use Rattle.bm_detect.specs.declared.detect_error.DetectError.{DetectError}
 use Rattle.bm_detect.specs.declared.detect_error.DetectError.TheVariants as refusal
 use Rattle.bm_detect.specs.declared.scan_state.Scan.{Scan}

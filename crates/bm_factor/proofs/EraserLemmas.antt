@@ -21,6 +21,7 @@ use Rattle.bm_factor.specs.Columns.{product, HasTrailingBlock, IsOwnInverse}
 use Rattle.bm_factor.specs.Eraser.{IsEraser, AddsTrailing}
 use Rattle.bm_factor.proofs.ColumnLemmas.{xor_sum-picked, own_inverse, unit_back, added_back, unchanged_low}
 use Rattle.bm_factor.proofs.InsertLemmas.{insert_done}
+use Rattle.bm_base.proofs.PowerLemmas.{below_wider}
 
 -- ---- the columns from m on
 
@@ -49,9 +50,6 @@ trailing_fresh w n m j kept block mj jn long is =
     let e : y ≡ 2 ^ d + x = xor_pow_above x d xb in
     let p : 0 < 2 ^ d = pow_pos d in
     omega arith)
-  where
-    below_wider : (x d k : ℕ) → x < 2 ^ d → d ≤ k → x < 2 ^ k
-    below_wider x d k l le = let p : 2 ^ d ≤ 2 ^ k = pow-le-pow_right (let t : 0 < 2 = omega arith in t) le in omega arith
 
 -- and is kept
 pub basis_more : (w : ℕ → ℕ) (n m j : ℕ) (kept kept2 : List ℕ) (v : ℕ) (b : Bool) → HasTrailingBlock w n m → m ≤ j → j < n

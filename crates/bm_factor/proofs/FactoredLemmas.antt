@@ -8,9 +8,9 @@ use Rattle.bm_gf2.specs.declared.matrix.Matrix.{Matrix}
 use Rattle.bm_gf2.specs.Matrix.{image, column, IsNonsingular}
 use Rattle.bm_gf2.proofs.VectorLemmas.{xor_sum-zero, xor_sum-above, xor_sum-pow, xor_sum-ext, xor_sum-lt, xor_sum-shr, xor_sum-split}
 use Rattle.bm_gf2.proofs.VectorLemmas.{xor_sum-units, xor_same}
+use Rattle.bm_gf2.proofs.ShiftLemmas.{image_below}
 use Rattle.bm_rank.specs.Inverse.{IsInverse}
 use Rattle.bm_rank.specs.Rank.{rank_of_rows}
-use Rattle.bm_rank.proofs.RowCutLemmas.{image_below}
 use Rattle.bm_forms.proofs.MldLemmas.{nonsingular_after, nonsingular_of_involution, below_of_none}
 use Rattle.bm_forms.proofs.PassLimitLemmas.{cut_same}
 use Rattle.bm_forms.proofs.PermutationLemmas.{nonsingular_long}

@@ -8,12 +8,13 @@ use Rattle.std.proofs.Math.Seq.{take-append_seam}
 use Rattle.std.proofs.lemmas.Grind.{div_ceil_times}
 use Rattle.std.proofs.lemmas.List.Elements.{All-push, All-nil}
 use Rattle.bm_base.specs.declared.shape.Shape.{Shape}
+use Rattle.bm_base.proofs.PowerLemmas.{below_wider}
 use Rattle.bm_gf2.specs.declared.matrix.Matrix.{Matrix}
 use Rattle.bm_gf2.specs.declared.affine.Affine.{Affine}
 use Rattle.bm_gf2.specs.Matrix.{image, column, IsNonsingular}
 use Rattle.bm_gf2.specs.Affine.{affine_image}
+use Rattle.bm_gf2.proofs.ShiftLemmas.{image_below}
 use Rattle.bm_rank.specs.RowSolution.{IsCovered}
-use Rattle.bm_rank.proofs.RowCutLemmas.{image_below}
 use Rattle.bm_forms.specs.declared.pass_form.PassForm.{PassForm}
 use Rattle.bm_forms.specs.declared.job.Job.TheVariants.{Permute}
 use Rattle.bm_forms.specs.Mld.{IsMld, HasNoTop}
@@ -134,7 +135,7 @@ factoring_more s a rest done rest2 done2 p id rank i forms forms2 f r split pn c
           ap (image rest2) (still (route forms2 x) (inside x h) ∙ goes x) ∙ split.undone y yb ∙ r.undone x h;
       rest_nonsingular = split.rest_nonsingular;
       done_nonsingular = λ x h z. sym (still x (subst (λ (k : ℕ). x < 2 ^ k) idn h)) ∙ z;
-      stays = λ x h. subst (λ (v : ℕ). v < 2 ^ s.m) (sym (still x (wider x s.m s.n h mn))) h;
+      stays = λ x h. subst (λ (v : ℕ). v < 2 ^ s.m) (sym (still x (below_wider x s.m s.n h mn))) h;
       trailing = subst (λ (k : ℕ). HasTrailingBlock (column rest2) k s.m) nums trailing;
       count =
           let t = r.count in
@@ -142,9 +143,6 @@ factoring_more s a rest done rest2 done2 p id rank i forms forms2 f r split pn c
       long = ap length more.is ∙ length-append forms (more.pass ∷ []) ∙ ap (λ (k : ℕ). k + 1) r.long;
       state = inr still;
     }
-  where
-    wider : (x m n : ℕ) → x < 2 ^ m → m ≤ n → x < 2 ^ n
-    wider x m n h l = let p : 2 ^ m ≤ 2 ^ n = pow-le-pow_right (let t : 0 < 2 = omega arith in t) l in omega arith
 
 -- ---- the end
 
@@ -182,9 +180,6 @@ no_round_mld s a rest done rank i forms r ie na still =
           ap (λ (v : ℕ). v / 2 ^ s.m) there
           ∙ HasNoTop-rows rest s.m (image done x) (omega arith) (rest_has_no_top s a rest done rank i forms r ie) (r.stays x h),
     )
-  where
-    below_wider : (x m n : ℕ) → x < 2 ^ m → m ≤ n → x < 2 ^ n
-    below_wider x m n h l = let p : 2 ^ m ≤ 2 ^ n = pow-le-pow_right (let t : 0 < 2 = omega arith in t) l in omega arith
 
 -- the loop's end, by the numbers that the code has
 pub rounds_done : (i rounds rank m b m2 b2 : ℕ) → i ≡ rounds → rounds ≡ div_ceil rank (m - b) → m ≡ m2 → b ≡ b2

@@ -11,10 +11,6 @@ use Rattle.bm_rank.specs.Span.{in_span}
 pub use Rattle.bm_rank.proofs.SpanLemmas.{in_span-member}
 use Rattle.bm_rank.proofs.SpanLemmas.{in_span-xor, in_span-zero}
 
--- numbers below 2 ^ n, without the rows below m
-pub cut_below : (n m x : ℕ) → m ≤ n → x < 2 ^ n → x / 2 ^ m < 2 ^ (n - m)
-cut_below n m x l h = let e : (n - m) + m ≡ n = omega arith in shr_below x (n - m) m (subst (λ (k : ℕ). x < 2 ^ k) (sym e) h)
-
 -- a sum of members is a member
 pub in_span-xor_sum : (ws : List ℕ) (w : ℕ → ℕ) (k x : ℕ) → ((j : ℕ) → j < k → bit_at x j ≡ 1 → in_span ws (w j) ≡ true)
     → in_span ws (xor_sum w k x) ≡ true

@@ -10,6 +10,7 @@ use Rattle.bm_factor.specs.Columns.{product, top_count, IsOwnInverse}
 use Rattle.bm_factor.specs.Swapper.{IsSwapper, IsExchanged}
 use Rattle.bm_factor.proofs.ColumnLemmas.{own_inverse, unit_back}
 use Rattle.bm_factor.proofs.TopCountLemmas.{count_exchanged, top_count-ext, top_count-split, top_count-le, top_count-none, top_count-all}
+use Rattle.bm_base.proofs.PowerLemmas.{same_exponent}
 
 -- columns i..m-1 are done, and those below `next` that are left are 0 in rows m and above: columns `from`..m-1 are not, and
 -- those before are, unless `from` is i
@@ -119,17 +120,6 @@ swapping_none_left a s m next i k s1 im mn none ik zeros =
     (cases_eq j i))
     (cases_lt j next))
 
--- one power of 2 has one exponent
-pow_same : (i j : ℕ) → 2 ^ i ≡ 2 ^ j → i ≡ j
-pow_same i j e =
-    ⊎_elim
-    (λ (p : i ≡ j). p)
-    (λ (p : i ≢ j).
-    let one : bit_at (2 ^ i) i ≡ 1 = bit_at-pow_same i in
-    let none : bit_at (2 ^ i) i ≡ 0 = ap (λ (c : ℕ). bit_at c i) e ∙ bit_at-pow_other j i p in
-    absurd (omega arith))
-    (cases_eq i j)
-
 -- column i is 0 there and column k is not: they are exchanged
 pub swapping_exchanged : (a s s2 : Matrix) (m next i k : ℕ) → IsSwapping a s m next (i + 1) → i < m → m ≤ a.n → column a i / 2 ^ m ≡ 0
     → next ≤ k → k < i → column a k / 2 ^ m ≢ 0 → ((p : ℕ) → next ≤ p → p < k → column a p / 2 ^ m ≡ 0)
@@ -160,8 +150,8 @@ swapping_exchanged a s s2 m next i k s1 im mn none nk ki some zeros size2 first 
           (λ (f : j ≡ k). subst (λ (x : ℕ). IsExchanged s2 m x) (sym f) (record { with = i; below = im; is = now_k; back = now_i }))
           (λ (f : j ≢ k).
           let x = s1.exchanged j l in
-          let not_i : x.with ≢ i = λ z. e (pow_same j i (sym x.back ∙ ap (column s) z ∙ unit_i)) in
-          let not_k : x.with ≢ k = λ z. f (pow_same j k (sym x.back ∙ ap (column s) z ∙ unit_k)) in
+          let not_i : x.with ≢ i = λ z. e (same_exponent j i (sym x.back ∙ ap (column s) z ∙ unit_i)) in
+          let not_k : x.with ≢ k = λ z. f (same_exponent j k (sym x.back ∙ ap (column s) z ∙ unit_k)) in
           record { with = x.with; below = x.below; is = others j e f ∙ x.is; back = others x.with not_i not_k ∙ x.back })
           (cases_eq j k))
           (cases_eq j i);

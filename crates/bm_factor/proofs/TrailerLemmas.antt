@@ -7,11 +7,11 @@ use Rattle.std.proofs.lemmas.Nat.{xor_comm, pow_pos, pow_below, shl-shr, shl_bel
 use Rattle.std.proofs.lemmas.Bool.{cases_lt, cases_eq, false≢true}
 use Rattle.std.proofs.lemmas.List.{get_or_append_left, get_or-append-add}
 use Rattle.std.proofs.lemmas.List.FromFn.{length-map-range_with_len, get_or-map-range_with_len}
-use Rattle.bm_rank.proofs.RowCutLemmas.{image_below}
 use Rattle.bm_gf2.specs.Vector.{xor_sum}
 use Rattle.bm_gf2.specs.declared.matrix.Matrix.{Matrix}
 use Rattle.bm_gf2.specs.Matrix.{image, column, IsNonsingular}
 use Rattle.bm_gf2.proofs.VectorLemmas.{xor_sum-xor, xor_sum-pow, xor_sum-shr, xor_sum-above, xor_sum-ext, xor_same, xor_cancel}
+use Rattle.bm_gf2.proofs.ShiftLemmas.{image_below}
 use Rattle.bm_rank.specs.Span.{in_span, sum_of}
 use Rattle.bm_rank.proofs.SpanLemmas.{in_span-member, in_span-sum, in_span-xor}
 use Rattle.bm_rank.proofs.RankBoundLemmas.{in_span-append_left}
@@ -21,7 +21,8 @@ use Rattle.bm_rank.proofs.DimensionLemmas.{short_misses, nonsingular_reaches}
 use Rattle.bm_factor.specs.Columns.{product, IsOwnInverse}
 use Rattle.bm_factor.specs.Trailer.{AddsInto, IsTrailer}
 use Rattle.bm_factor.proofs.ColumnLemmas.{own_inverse, unit_back, added_back, unchanged_low}
-use Rattle.bm_factor.proofs.InsertLemmas.{cut_below, in_span-xor_sum, no_member, insert_known, insert_fresh, insert_done, insert_same}
+use Rattle.bm_factor.proofs.InsertLemmas.{in_span-xor_sum, no_member, insert_known, insert_fresh, insert_done, insert_same}
+use Rattle.bm_base.proofs.PowerLemmas.{cut_below}
 
 -- column j of the product a t, without the rows below m
 abbrev pub cut_column : Matrix → Matrix → ℕ → ℕ → ℕ

@@ -10,7 +10,7 @@ use Rattle.bm_gf2.specs.declared.matrix.Matrix.{Matrix}
 use Rattle.bm_gf2.specs.Matrix.{image, column, IsNonsingular}
 use Rattle.bm_gf2.specs.Affine.{affine_image}
 use Rattle.bm_gf2.proofs.VectorLemmas.{xor_sum-xor, xor_sum-ext, xor_sum-mod, xor_sum-above, xor_sum-bits, xor_swap, eq_of_xor-zero}
-use Rattle.bm_gf2.proofs.VectorLemmas.{zero_times}
+use Rattle.bm_gf2.proofs.VectorLemmas.{zero_times, bit_of_low}
 use Rattle.bm_rank.specs.RowSolution.{IsCovered, middle_rows}
 use Rattle.bm_rank.proofs.KernelLemmas.{IsIndependent}
 use Rattle.bm_rank.proofs.SpanLemmas.{sum_of_span}
@@ -18,7 +18,7 @@ use Rattle.bm_rank.proofs.DimensionLemmas.{rank-independent, full_rank_spans}
 use Rattle.bm_rank.proofs.RowCutLemmas.{low_zero, middle_of_low}
 use Rattle.bm_forms.specs.declared.mld_form.MldForm.{MldForm}
 use Rattle.bm_forms.proofs.MldLemmas.{covered_of_solution, below_of_none}
-use Rattle.bm_forms.proofs.PermutationLemmas.{nonsingular_long, bit_at_low}
+use Rattle.bm_forms.proofs.PermutationLemmas.{nonsingular_long}
 
 -- the first m columns cut below row m
 low_columns : Matrix → ℕ → List ℕ
@@ -67,7 +67,7 @@ low_reaches a b m v ns l le c h =
       s.0 % 2 ^ m,
       cut,
       sym (low_xor_sum a m (s.0 % 2 ^ m) le long cut)
-          ∙ xor_sum-bits (slice_index ws) m (s.0 % 2 ^ m) s.0 (λ j k. bit_at_low s.0 m j k)
+          ∙ xor_sum-bits (slice_index ws) m (s.0 % 2 ^ m) s.0 (λ j k. bit_of_low s.0 m j k)
           ∙ ap (λ (k : ℕ). xor_sum (slice_index ws) k s.0) (sym len) ∙ s.1,
     )
 

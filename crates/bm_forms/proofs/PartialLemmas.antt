@@ -7,9 +7,10 @@ use Rattle.bm_base.specs.Butterfly.{negative}
 use Rattle.bm_forms.specs.Transform.{sum_below, signed}
 use Rattle.bm_base.proofs.CaseLemmas.{if_same, plus_same}
 use Rattle.bm_forms.proofs.TransformLemmas.{none_in_zero, sum_below-same, sum_below-split, sum_below-against, sum_below-one, and_low}
-use Rattle.bm_forms.proofs.TransformLemmas.{and_high, signed-same, signed-against}
+use Rattle.bm_forms.proofs.TransformLemmas.{and_high, signed-same, signed-against, and_none}
 use Rattle.bm_gf2.proofs.VectorLemmas.{zero_times}
 use Rattle.bm_base.proofs.ButterflyLemmas.{set_bit}
+use Rattle.bm_base.proofs.PowerLemmas.{two_halves}
 
 -- one block more
 one_more : (a w : ℕ) → (a + 1) * w ≡ a * w + w
@@ -17,13 +18,9 @@ one_more a w = add-mul a 1 w ∙ (let e : a * w + 1 * w ≡ a * w + w = omega ar
 
 -- ---- the parts of an address
 
--- no bits in common with 0
-none_and : (k : ℕ) → bit_and k 0 ≡ 0
-none_and k = let h = and_le_r k 0 in omega arith
-
 -- their number is even
 even_none : count_ones (bit_and 0 0) % 2 ≡ 0
-even_none = ap (λ (c : ℕ). count_ones c % 2) (none_and 0) ∙ ap (λ (c : ℕ). c % 2) none_in_zero
+even_none = ap (λ (c : ℕ). count_ones c % 2) (and_none 0) ∙ ap (λ (c : ℕ). c % 2) none_in_zero
 
 -- an address below 2 ^ n lies in the first block of 2 ^ n
 first_block : (k n t : ℕ) → k < 2 ^ n → k / 2 ^ n * 2 ^ n + t ≡ t
@@ -31,11 +28,6 @@ first_block k n t h =
     let s : k / 2 ^ n * 2 ^ n + k % 2 ^ n ≡ k = shr_split k n in
     let m : k % 2 ^ n ≡ k = mod-eq_of_lt h in
     omega arith
-
--- two halves
-pub twice : (r : ℕ) → 2 ^ (r + 1) ≡ 2 ^ r + 2 ^ r
-twice r = ap (λ (c : ℕ). 2 ^ c) (let e : r + 1 ≡ suc r = omega arith in e) ∙ pow-suc 2 r
-    ∙ (let e : 2 ^ r * 2 ≡ 2 ^ r + 2 ^ r = omega arith in e)
 
 -- 0 and a number
 none_plus : (c : ℕ) → 0 + c ≡ c
@@ -115,7 +107,7 @@ unfolding partial
 partial-none v k =
     sum_below-one (signed (λ t. v (k / 2 ^ 0 * 2 ^ 0 + t)) k)
     ∙ signed-same (λ t. v (k / 2 ^ 0 * 2 ^ 0 + t)) (λ t. v k) k 0 0 0
-    (ap (λ (c : ℕ). c % 2) (ap count_ones (none_and k ∙ sym (none_and 0)))) (ap v (let e : k / 1 * 1 + 0 ≡ k = omega arith in e))
+    (ap (λ (c : ℕ). c % 2) (ap count_ones (and_none k ∙ sym (and_none 0)))) (ap v (let e : k / 1 * 1 + 0 ≡ k = omega arith in e))
     ∙ if_same (count_ones (bit_and 0 0) % 2) 0 (v k) (negative (v k)) even_none
 
 -- all bits: the transform
@@ -129,7 +121,7 @@ partial-all v n k h =
 pub partial-clear : (v : ℕ → ℕ) (r k : ℕ) → bit_at k r ≡ 0 → partial v (r + 1) k ≡ partial v r k + partial v r (k + 2 ^ r)
 unfolding partial
 partial-clear v r k h =
-    ap (λ (c : ℕ). sum_below c (signed (λ t. v (k / 2 ^ (r + 1) * 2 ^ (r + 1) + t)) k)) (twice r)
+    ap (λ (c : ℕ). sum_below c (signed (λ t. v (k / 2 ^ (r + 1) * 2 ^ (r + 1) + t)) k)) (two_halves r)
     ∙ sum_below-split (2 ^ r) (2 ^ r) (signed (λ t. v (k / 2 ^ (r + 1) * 2 ^ (r + 1) + t)) k)
     ∙ plus_same
     (sum_below-same (2 ^ r) (signed (λ t. v (k / 2 ^ (r + 1) * 2 ^ (r + 1) + t)) k) (signed (λ t. v (k / 2 ^ r * 2 ^ r + t)) k)
@@ -164,6 +156,6 @@ partial-set v r k h =
     let whole : sum_below (2 ^ (r + 1)) (signed (λ t. v (j / 2 ^ (r + 1) * 2 ^ (r + 1) + t)) j)
     ≡ sum_below (2 ^ r) (signed (λ t. v (j / 2 ^ (r + 1) * 2 ^ (r + 1) + t)) j) + sum_below (2 ^ r)
     (λ t. signed (λ t. v (j / 2 ^ (r + 1) * 2 ^ (r + 1) + t)) j (2 ^ r + t))
-    = ap (λ (c : ℕ). sum_below c (signed (λ t. v (j / 2 ^ (r + 1) * 2 ^ (r + 1) + t)) j)) (twice r)
+    = ap (λ (c : ℕ). sum_below c (signed (λ t. v (j / 2 ^ (r + 1) * 2 ^ (r + 1) + t)) j)) (two_halves r)
     ∙ sum_below-split (2 ^ r) (2 ^ r) (signed (λ t. v (j / 2 ^ (r + 1) * 2 ^ (r + 1) + t)) j) in
     difference _ _ _ _ _ whole first second

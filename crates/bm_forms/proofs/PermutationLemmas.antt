@@ -12,8 +12,8 @@ use Rattle.bm_gf2.specs.declared.matrix.Matrix.{Matrix}
 use Rattle.bm_gf2.specs.declared.affine.Affine.{Affine}
 use Rattle.bm_gf2.specs.Matrix.{column, image, IsNonsingular}
 use Rattle.bm_gf2.specs.Affine.{affine_image}
-use Rattle.bm_gf2.proofs.VectorLemmas.{xor_sum-xor, xor_sum-bits, xor_sum-pow, xor_cancel, eq_of_xor-zero}
-use Rattle.bm_rank.proofs.RowCutLemmas.{image_below}
+use Rattle.bm_gf2.proofs.VectorLemmas.{xor_sum-xor, xor_sum-bits, xor_sum-pow, xor_cancel, eq_of_xor-zero, bit_of_low}
+use Rattle.bm_gf2.proofs.ShiftLemmas.{image_below}
 use Rattle.bm_rank.proofs.DimensionLemmas.{nonsingular_reaches}
 use Rattle.bm_base.specs.Records.{SameRecords}
 use Rattle.bm_forms.specs.Permutation.{source_below, source, permuted}
@@ -64,13 +64,9 @@ source-image f x g h =
     one_source f (source f (affine_image f x)) x g (source-lt f (affine_image f x)) h
     (source_below-found f (2 ^ f.a.n) x (affine_image f x) h refl)
 
--- the bits below k stay where the others are cut off
-pub bit_at_low : (x k j : ℕ) → j < k → bit_at (x % 2 ^ k) j ≡ bit_at x j
-bit_at_low x k j l = sym (bit_at_cat_low (x / 2 ^ k) k (x % 2 ^ k) j l) ∙ ap (λ (v : ℕ). bit_at v j) (shr_split x k)
-
 -- a vector cut to n bits has the same image
 pub image-cut : (a : Matrix) (x : ℕ) → image a (x % 2 ^ a.n) ≡ image a x
-image-cut a x = xor_sum-bits (column a) a.n (x % 2 ^ a.n) x (λ j l. bit_at_low x a.n j l)
+image-cut a x = xor_sum-bits (column a) a.n (x % 2 ^ a.n) x (λ j l. bit_of_low x a.n j l)
 
 -- a nonsingular matrix has all its columns
 pub nonsingular_long : (a : Matrix) → IsNonsingular a → a.n ≤ length a.cols

@@ -8,16 +8,8 @@ use Rattle.bm_gf2.specs.Vector.{xor_sum}
 use Rattle.bm_gf2.specs.declared.affine.Affine.{Affine}
 use Rattle.bm_gf2.specs.Matrix.{image, column}
 use Rattle.bm_gf2.proofs.VectorLemmas.{xor_sum-split, xor_sum-ext, xor_sum-map, xor_sum-units, xor_same, zero_times}
+use Rattle.bm_gf2.proofs.ShiftLemmas.{xor_shl}
 use Rattle.bm_forms.proofs.RoundLemmas.{rotated, IsRotation}
-
--- a shift passes through an XOR
-pub xor_shl : (a b k : ℕ) → bit_xor a b * 2 ^ k ≡ bit_xor (a * 2 ^ k) (b * 2 ^ k)
-xor_shl a b k =
-    let x = xor_block k a b 0 0 (pow_pos k) (pow_pos k) in
-    let z : bit_xor 0 0 ≡ 0 = xor_zero_l 0 in
-    let l : bit_xor (a * 2 ^ k + 0) (b * 2 ^ k + 0) ≡ bit_xor (a * 2 ^ k) (b * 2 ^ k) =
-    xor_same (let e : a * 2 ^ k + 0 ≡ a * 2 ^ k = omega arith in e) (let e : b * 2 ^ k + 0 ≡ b * 2 ^ k = omega arith in e) in
-    sym (sym l ∙ x ∙ ap (λ (c : ℕ). bit_xor a b * 2 ^ k + c) z ∙ (let e : bit_xor a b * 2 ^ k + 0 ≡ bit_xor a b * 2 ^ k = omega arith in e))
 
 -- columns in place of the rotation's are the rotation
 pub rotation_image : (w : ℕ → ℕ) (n by x : ℕ) → by ≤ n → x < 2 ^ n → ((j : ℕ) → j < n → w j ≡ 2 ^ ((j + n - by) % n))

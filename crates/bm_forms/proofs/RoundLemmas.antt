@@ -12,6 +12,7 @@ use Rattle.bm_gf2.specs.Matrix.{IsNonsingular}
 use Rattle.bm_base.specs.Records.{SameRecords}
 use Rattle.bm_base.specs.Butterfly.{number_in, record_of, negative, butterfly, butterflies}
 use Rattle.bm_base.proofs.ButterflyLemmas.{record_of-mod, number_in-record_of, butterfly-clear, butterfly-set, without_bit, set_below}
+use Rattle.bm_base.proofs.PowerLemmas.{cut_below}
 use Rattle.bm_forms.specs.Transform.{transformed}
 use Rattle.bm_forms.specs.Permutation.{permuted}
 use Rattle.bm_forms.proofs.PermutationLemmas.{permuted-image}
@@ -28,16 +29,12 @@ rotated n by x = x % 2 ^ by * 2 ^ (n - by) + x / 2 ^ by
 pow_join : (a b c : ℕ) → a + b ≡ c → 2 ^ a * 2 ^ b ≡ 2 ^ c
 pow_join a b c e = sym (pow-add 2 a b) ∙ ap (λ (x : ℕ). 2 ^ x) e
 
--- the upper bits
-upper_lt : (n by x : ℕ) → by ≤ n → x < 2 ^ n → x / 2 ^ by < 2 ^ (n - by)
-upper_lt n by x l h = shr_lt (n - by) by (subst (λ (c : ℕ). x < 2 ^ c) (let e : n ≡ n - by + by = omega arith in e) h)
-
 -- a rotated address is an address
 pub rotated-lt : (n by x : ℕ) → by ≤ n → x < 2 ^ n → rotated n by x < 2 ^ n
 unfolding rotated
 rotated-lt n by x l h =
     let m : x % 2 ^ by * 2 ^ (n - by) + x / 2 ^ by < 2 ^ (n - by) * 2 ^ by =
-    mul-add-lt (x % 2 ^ by) (2 ^ (n - by)) (x / 2 ^ by) (2 ^ by) (mod-lt x (pow_pos by)) (upper_lt n by x l h) in
+    mul-add-lt (x % 2 ^ by) (2 ^ (n - by)) (x / 2 ^ by) (2 ^ by) (mod-lt x (pow_pos by)) (cut_below n by x l h) in
     subst (λ (c : ℕ). x % 2 ^ by * 2 ^ (n - by) + x / 2 ^ by < c) (pow_join (n - by) by n (let e : n - by + by ≡ n = omega arith in e)) m
 
 -- bit i of it is bit by + i

@@ -68,7 +68,7 @@ ones-parts (suc r) a b h =
     omega arith
 
 -- 0 has no bits in common with any
-and_none : (a : ℕ) → bit_and a 0 ≡ 0
+pub and_none : (a : ℕ) → bit_and a 0 ≡ 0
 and_none a = let h = and_le_r a 0 in omega arith
 
 -- common bits are no more than both

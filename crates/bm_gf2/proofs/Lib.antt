@@ -3,3 +3,4 @@ pub mod RowLemmas
 pub mod StepperLemmas
 pub mod RotationLemmas
 pub mod MapLemmas
+pub mod ShiftLemmas

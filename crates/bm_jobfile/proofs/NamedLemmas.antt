@@ -9,7 +9,7 @@ use Rattle.bm_gf2.specs.declared.affine.Affine.{Affine}
 use Rattle.bm_gf2.specs.Matrix.{column, image, IsNonsingular}
 use Rattle.bm_gf2.specs.Affine.{affine_image}
 use Rattle.bm_gf2.proofs.VectorLemmas.{xor_cancel_right}
-use Rattle.bm_rank.proofs.RowCutLemmas.{image_below}
+use Rattle.bm_gf2.proofs.ShiftLemmas.{image_below}
 use Rattle.bm_named.specs.declared.map_fault.MapFault.{MapFault}
 use Rattle.bm_named.specs.declared.map_fault.MapFault.TheVariants.{Width, Side, Length, Range, Twice, Wide, Singular, Complement}
 use Rattle.bm_named.specs.RowList.{AreRows, SendToZero, RowsFaultIs}

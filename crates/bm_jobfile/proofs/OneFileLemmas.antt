@@ -14,8 +14,8 @@ use Rattle.bm_gf2.specs.Matrix.{column, image}
 use Rattle.bm_gf2.specs.Affine.{affine_image}
 use Rattle.bm_gf2.proofs.VectorLemmas.{xor_cancel, xor_cancel_right, xor_sum-zero, xor_sum-pow}
 use Rattle.bm_gf2.proofs.MapLemmas.{matrix_equal, affine_equal}
+use Rattle.bm_gf2.proofs.ShiftLemmas.{image_below}
 use Rattle.bm_base.proofs.EqualLemmas.{shape_equal}
-use Rattle.bm_rank.proofs.RowCutLemmas.{image_below}
 use Rattle.bm_forms.specs.declared.job.Job.{Job}
 use Rattle.bm_forms.specs.declared.job.Job.TheVariants as job
 use Rattle.bm_named.specs.declared.map_fault.MapFault.TheVariants as fault

@@ -6,7 +6,7 @@ use Rattle.std.proofs.lemmas.Nat.Bits.{bit_at-zero, same_from_bits_below}
 use Rattle.bm_gf2.specs.declared.matrix.Matrix.{Matrix}
 use Rattle.bm_gf2.specs.Matrix.{column, image}
 use Rattle.bm_gf2.specs.Kernel.{IsLeastKernel}
-use Rattle.bm_rank.proofs.RowCutLemmas.{image_below}
+use Rattle.bm_gf2.proofs.ShiftLemmas.{image_below}
 use Rattle.bm_named.specs.RowList.{SendToZero, IsLeastKernelOfRows}
 use Rattle.bm_named.proofs.ImageLemmas.{image-row}
 

@@ -13,7 +13,7 @@ use Rattle.bm_base.specs.Shape.{load_stripes}
 use Rattle.bm_base.specs.Records.{record_at, record_in}
 use Rattle.bm_gf2.specs.Matrix.{image}
 use Rattle.bm_gf2.proofs.VectorLemmas.{xor_cancel}
-use Rattle.bm_rank.proofs.RowCutLemmas.{image_below}
+use Rattle.bm_gf2.proofs.ShiftLemmas.{image_below}
 use Rattle.bm_rank.proofs.DimensionLemmas.{nonsingular_reaches}
 use Rattle.bm_forms.proofs.PermutationLemmas.{nonsingular_long, image-cut}
 use Rattle.bm_bufs.specs.declared.placing.Placing.{Placing}

@@ -18,6 +18,7 @@ use Rattle.bm_rank.specs.Span.{in_span}
 use Rattle.bm_rank.specs.Span.{sum_of}
 use Rattle.bm_rank.proofs.SpanLemmas.{false_from, in_span-sum}
 use Rattle.bm_rank.proofs.SpanLemmas.{sum_of-take}
+use Rattle.bm_base.proofs.PowerLemmas.{two_halves}
 
 -- only 0 picks 0 from the first j
 pub record IsIndependent (w : ℕ → ℕ) (j : ℕ) : Type 0 where
@@ -67,10 +68,6 @@ module _ (w : ℕ → ℕ) (j n m : ℕ) (i : IsIndependent w j) (l : j < n) (be
   least : ℕ
   least = bit_xor m (2 ^ j)
 
-  -- twice as many with one bit more
-  pow_twice : 2 ^ (j + 1) ≡ 2 ^ j + 2 ^ j
-  pow_twice = rw add-one (two-pow-succ j)
-
   -- a vector with the top bit j
   topped : (r : ℕ) → r < 2 ^ j → (bit_xor r (2 ^ j) ≡ 2 ^ j + r) × (xor_sum w (j + 1) (bit_xor r (2 ^ j)) ≡ bit_xor (xor_sum w j r) (w j))
   topped r h = (
@@ -88,7 +85,7 @@ module _ (w : ℕ → ℕ) (j n m : ℕ) (i : IsIndependent w j) (l : j < n) (be
 
   -- it has no bit above j
   least_short : bit_xor m (2 ^ j) < 2 ^ (j + 1)
-  least_short = let e = least_is in let t = pow_twice in omega (arith, e, t)
+  least_short = let e = least_is in let t = two_halves j in omega (arith, e, t)
 
   -- it is below 2 ^ n
   pub least_below : bit_xor m (2 ^ j) < 2 ^ n
@@ -113,7 +110,7 @@ module _ (w : ℕ → ℕ) (j n m : ℕ) (i : IsIndependent w j) (l : j < n) (be
       ⊎_elim
       (λ (q : y < 2 ^ (j + 1)).
       let r : ℕ = y - 2 ^ j in
-      let rb : r < 2 ^ j = let t = pow_twice in omega (arith, t) in
+      let rb : r < 2 ^ j = let t = two_halves j in omega (arith, t) in
       let ye : bit_xor r (2 ^ j) ≡ y = (topped r rb).0 ∙ (let d : 2 ^ j + r ≡ y = omega arith in d) in
       let s : bit_xor (xor_sum w j r) (w j) ≡ 0 = sym (topped r rb).1 ∙ ap (xor_sum w (j + 1)) ye
       ∙ sym (xor_sum-above w (j + 1) n y (omega arith) q) ∙ h in

@@ -12,6 +12,7 @@ use Rattle.bm_gf2.proofs.VectorLemmas.{xor_sum-above, xor_sum-ext, xor_sum-shr, 
 use Rattle.bm_gf2.proofs.VectorLemmas.{xor_sum-zero, xor_sum-bits, xor_sum-lt, eq_of_xor-zero, xor_same}
 use Rattle.bm_rank.specs.RowSolution.{IsCovered, IsLeastOutside, IsLeastSplit, IsCut, middle_rows, top_rows}
 use Rattle.bm_gf2.specs.Kernel.{IsLeastKernel}
+use Rattle.bm_gf2.proofs.ShiftLemmas.{image_below}
 use Rattle.bm_rank.specs.Inverse.{IsInverse}
 
 -- the cut columns give those rows of the image
@@ -22,10 +23,6 @@ cut_xor_sum a m from width x cols c l h =
     ∙ sym (xor_sum-mod (λ j. column a j / 2 ^ from) m width x)
     ∙ ap (λ (v : ℕ). v % 2 ^ width) (sym (xor_sum-shr (column a) m from x))
     ∙ ap (λ (v : ℕ). v / 2 ^ from % 2 ^ width) (sym (xor_sum-above (column a) m a.n x l h))
-
--- an image has n bits
-pub image_below : (a : Matrix) (x : ℕ) → image a x < 2 ^ a.n
-image_below a x = xor_sum-lt (column a) a.n a.n x a.below
 
 -- the rows from m on, all of them
 pub top_is_cut : (a : Matrix) (m x : ℕ) → m ≤ a.n → image a x / 2 ^ m % 2 ^ (a.n - m) ≡ top_rows a m x

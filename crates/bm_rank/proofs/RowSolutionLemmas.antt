@@ -15,6 +15,7 @@ use Rattle.bm_rank.specs.RowSolution.{IsLeastSplit}
 use Rattle.bm_rank.specs.Span.{in_span}
 use Rattle.bm_rank.specs.Span.{sum_of}
 use Rattle.bm_rank.proofs.SpanLemmas.{kept_old, kept_last, false_from, in_span-sum, in_span-zero, in_span-xor, in_span-push, in_span-cons}
+use Rattle.bm_base.proofs.PowerLemmas.{two_halves}
 
 -- the first j columns: `lows` of m, what was kept of them, and the vectors that give what was kept
 pub record IsSolving (lows highs : ℕ → ℕ) (m j : ℕ) (kept : List ℕ) (units : ℕ → ℕ) : Type 0 where
@@ -54,10 +55,6 @@ module _ (lows highs : ℕ → ℕ) (m j : ℕ) (kept : List ℕ) (units : ℕ �
   vector_sent x =
       xor_sum-xor_sum lows units m (length kept) x ∙ xor_sum-ext (λ k. xor_sum lows m (units k)) (slice_index kept) (length kept) x s.sent
 
-  -- twice as many with one bit more
-  more_room : 2 ^ (j + 1) ≡ 2 ^ j + 2 ^ j
-  more_room = rw add-one (two-pow-succ j)
-
   -- ---- the column is a sum of those before it
   module _ (x : ℕ) (sum : sum_of kept x ≡ lows j) where
     found : ℕ
@@ -81,7 +78,7 @@ module _ (lows highs : ℕ → ℕ) (m j : ℕ) (kept : List ℕ) (units : ℕ �
         let f : ℕ = xor_sum units (length kept) x in
         let fb : f < 2 ^ j = vector_below x in
         let fe : bit_xor f (2 ^ j) ≡ 2 ^ j + f = xor_pow_above f j fb in
-        let room : 2 ^ (j + 1) ≡ 2 ^ j + 2 ^ j = more_room in
+        let room : 2 ^ (j + 1) ≡ 2 ^ j + 2 ^ j = two_halves j in
         ⊎_elim
         (λ (p : y < 2 ^ (j + 1)).
         ⊎_elim
@@ -101,7 +98,7 @@ module _ (lows highs : ℕ → ℕ) (m j : ℕ) (kept : List ℕ) (units : ℕ �
     solving_same z =
         let f : ℕ = xor_sum units (length kept) x in
         let fb : f < 2 ^ j = vector_below x in
-        let room : 2 ^ (j + 1) ≡ 2 ^ j + 2 ^ j = more_room in
+        let room : 2 ^ (j + 1) ≡ 2 ^ j + 2 ^ j = two_halves j in
         record {
           units_below = λ k h. let u : units k < 2 ^ j = s.units_below k h in omega arith;
           sent = s.sent;
@@ -143,7 +140,7 @@ module _ (lows highs : ℕ → ℕ) (m j : ℕ) (kept : List ℕ) (units : ℕ �
       let w : ℕ = lows j in
       let kept2 : List ℕ = kept ++ w ∷ [] in
       let len : length kept2 ≡ n + 1 = simp length-append refl in
-      let room : 2 ^ (j + 1) ≡ 2 ^ j + 2 ^ j = more_room in
+      let room : 2 ^ (j + 1) ≡ 2 ^ j + 2 ^ j = two_halves j in
       let outside : in_span kept w ≡ true → ⊥ = λ h. false≢true (sym f ∙ h) in
       let vec : (t : ℕ) → xor_sum units2 (length kept2) t ≡ bit_xor (xor_sum units n t) (bit_at t n * 2 ^ j) = λ t.
       ap (λ (c : ℕ). xor_sum units2 c t) len ∙ xor_sum-more units2 n t

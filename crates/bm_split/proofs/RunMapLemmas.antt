@@ -4,6 +4,7 @@ use Rattle.std.proofs.Common.{get_or-set_same, slice_index, refl, sym, ap, ◌�
 use Rattle.std.proofs.lemmas.Nat.{shl_below, shr_below, shl-shr, one_shl, pow_below, pow-add, xor_comm}
 use Rattle.std.proofs.lemmas.Bool.{cases_lt, cases_eq, le-ltb, lt-leb}
 use Rattle.bm_base.specs.ShapeRules.{broken_rule}
+use Rattle.bm_base.proofs.PowerLemmas.{cut_below}
 use Rattle.std.specs.Int.Bits.{xor_zero_r}
 use Rattle.std.proofs.Math.Nat.{mod-eq_of_lt, div-eq_of_lt, mul-mod_left, div-add-mod', zero-div}
 use Rattle.std.proofs.Math.Pow.{pow_mono}
@@ -24,10 +25,6 @@ put_back v n low few l h =
     let s : v * 2 ^ low < 2 ^ n = subst (λ k. v * 2 ^ low < 2 ^ k) e (shl_below v (n - low) low h) in
     let most : 2 ^ n ≤ 18446744073709551616 = pow_mono {i = n} {j = 64} (omega arith) in
     (mod-eq_of_lt (omega arith), s)
-
--- the rows from low on
-pub cut_above : (n low x : ℕ) → low ≤ n → x < 2 ^ n → x / 2 ^ low < 2 ^ (n - low)
-cut_above n low x l h = let e : (n - low) + low ≡ n = omega arith in shr_below x (n - low) low (subst (λ k. x < 2 ^ k) (sym e) h)
 
 -- a power of two that code shifts to
 pub one_shifted : (k : ℕ) → k ≤ 52 → 1 * 2 ^ k % 18446744073709551616 ≡ 2 ^ k
@@ -70,7 +67,7 @@ run_map_keeps a low plus tops inside is clear = record {
 pub cut_constant : (plus n low : ℕ) → n ≤ 52 → low ≤ n → plus < 2 ^ n
     → (plus / 2 ^ low * 2 ^ low % 18446744073709551616 % 2 ^ low ≡ 0) × (plus / 2 ^ low * 2 ^ low % 18446744073709551616 < 2 ^ n)
 cut_constant plus n low few l h =
-    let b = put_back (plus / 2 ^ low) n low few l (cut_above n low plus l h) in
+    let b = put_back (plus / 2 ^ low) n low few l (cut_below n low plus l h) in
     (ap (λ c. c % 2 ^ low) b.0 ∙ mul-mod_left (plus / 2 ^ low) (2 ^ low), subst (λ c. c < 2 ^ n) (sym b.0) b.1)
 
 -- columns low..low+i-1 stand, and the other ones are units
@@ -168,7 +165,7 @@ pub run_map_nonsingular : (a : Matrix) (low : ℕ) (tops : List ℕ) → low < a
 run_map_nonsingular a low tops inside is only = λ x l sent.
     let high : xor_sum (slice_index tops) (a.n - low) (x / 2 ^ low) ≡ 0 =
     sym (run_map_high a low x tops (omega arith) is) ∙ ap (λ v. v / 2 ^ low) sent ∙ zero-div (2 ^ low) in
-    let none : x / 2 ^ low ≡ 0 = only (x / 2 ^ low) (cut_above a.n low x (omega arith) l) high in
+    let none : x / 2 ^ low ≡ 0 = only (x / 2 ^ low) (cut_below a.n low x (omega arith) l) high in
     let lows : x % 2 ^ low ≡ 0 % 2 ^ low = sym (run_map_low a low x tops inside is l) ∙ ap (λ v. v % 2 ^ low) sent in
     of_parts x 0 low (none ∙ sym (zero-div (2 ^ low))) lows
 

@@ -5,8 +5,8 @@ use Rattle.std.proofs.lemmas.Nat.{xor_lt}
 use Rattle.bm_gf2.specs.declared.matrix.Matrix.{Matrix}
 use Rattle.bm_gf2.specs.Matrix.{image, column}
 use Rattle.bm_gf2.proofs.VectorLemmas.{xor_sum-xor, xor_same, xor_cancel}
+use Rattle.bm_gf2.proofs.ShiftLemmas.{image_below}
 use Rattle.bm_rank.specs.Inverse.{IsInverse}
-use Rattle.bm_rank.proofs.RowCutLemmas.{image_below}
 use Rattle.bm_bufs.specs.Places.{places_by}
 use Rattle.bm_bufs.specs.Tiles.{HasOrigin}
 

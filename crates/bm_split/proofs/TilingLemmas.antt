@@ -8,23 +8,19 @@ use Rattle.std.proofs.Math.Pow.{pow_mono}
 use Rattle.std.proofs.lemmas.Nat.{xor_lt, xor_comm, pow_pos, pow_below}
 use Rattle.std.proofs.lemmas.Nat.Bits.{bit_at-lt}
 use Rattle.std.proofs.lemmas.Bool.{cases_lt}
-use Rattle.bm_rank.proofs.RowCutLemmas.{image_below}
 use Rattle.bm_gf2.specs.Vector.{xor_sum}
 use Rattle.bm_gf2.specs.declared.matrix.Matrix.{Matrix}
 use Rattle.bm_gf2.specs.Matrix.{column, image, IsNonsingular}
 use Rattle.bm_gf2.proofs.VectorLemmas.{xor_sum-xor, xor_sum-pow, xor_sum-ext, xor_sum-zero, xor_same, xor_swap, xor_cancel, zero_times}
+use Rattle.bm_gf2.proofs.ShiftLemmas.{xor_shl, image_below}
 use Rattle.bm_rank.specs.Inverse.{IsInverse}
 use Rattle.bm_bufs.specs.Tiles.{KeepsTiles}
-use Rattle.bm_forms.proofs.RotationLemmas.{xor_shl}
 use Rattle.bm_factor.specs.Columns.{product}
 use Rattle.bm_factor.specs.Trailer.{IsTrailer}
 use Rattle.bm_split.specs.RunMap.{IsRunMap}
 use Rattle.bm_split.specs.Tiling.{IsInTile, IsNearRun}
-use Rattle.bm_split.proofs.RunMapLemmas.{cut_above, put_back, run_map_nonsingular}
-
--- a number of the first tile is one of a place
-up_to : (i k y : ℕ) → i ≤ k → y < 2 ^ i → y < 2 ^ k
-up_to i k y l h = let p : 2 ^ i ≤ 2 ^ k = pow_mono {i = i} {j = k} l in omega arith
+use Rattle.bm_split.proofs.RunMapLemmas.{put_back, run_map_nonsingular}
+use Rattle.bm_base.proofs.PowerLemmas.{cut_below, below_wider}
 
 -- sums stay in the tile
 pub in_tile_xor : (basis : Matrix) (tile u v : ℕ) → IsInTile basis tile u → IsInTile basis tile v → IsInTile basis tile (bit_xor u v)
@@ -73,7 +69,7 @@ pub near_in_tile : (a basis : Matrix) (low tile v : ℕ) → low ≤ tile → ((
 near_in_tile a basis low tile v le same images near =
     subst (IsInTile basis tile) (sym near.is)
     (in_tile_xor basis tile (image a near.place / 2 ^ low * 2 ^ low) near.lows (images near.place near.place_in)
-    (record { number = near.lows; below = up_to low tile near.lows le near.lows_in; place = same near.lows near.lows_in }))
+    (record { number = near.lows; below = below_wider near.lows low tile near.lows_in le; place = same near.lows near.lows_in }))
 
 -- where each place moves within the tile, the map of the numbers keeps tiles
 pub keeps_tiles_of : (home basis numbers middle back : Matrix) (plus back_plus tile : ℕ) → home.n ≡ basis.n → back.n ≡ basis.n
@@ -85,7 +81,7 @@ pub keeps_tiles_of : (home basis numbers middle back : Matrix) (plus back_plus t
     → KeepsTiles back back_plus tile
 keeps_tiles_of home basis numbers middle back plus back_plus tile home_size back_size inside of_basis middle_is back_is plus_is moves start
     =
-    let named : (s : ℕ) → s < 2 ^ tile → image numbers (image basis s) ≡ s = λ s l. of_basis.left s (up_to tile basis.n s inside l) in
+    let named : (s : ℕ) → s < 2 ^ tile → image numbers (image basis s) ≡ s = λ s l. of_basis.left s (below_wider s tile basis.n l inside) in
     record {
       start = subst (λ c. c < 2 ^ tile)
           (sym (plus_is ∙ ap (image numbers) (sym start.place) ∙ named start.number start.below)) start.below;
@@ -98,7 +94,7 @@ keeps_tiles_of home basis numbers middle back plus back_plus tile home_size back
           let goes : image home y ≡ image basis (bit_xor unit s) =
           sym (xor_cancel y (image home y)) ∙ ap (bit_xor y) (sym m.place) ∙ sym (xor_sum-xor (column basis) basis.n unit s) in
           let sum_in : bit_xor unit s < 2 ^ basis.n =
-          xor_lt basis.n unit s (pow_below j basis.n in_basis) (up_to tile basis.n s inside m.below) in
+          xor_lt basis.n unit s (pow_below j basis.n in_basis) (below_wider s tile basis.n m.below inside) in
           let is : column back j ≡ bit_xor unit s =
           sym (xor_sum-pow (column back) back.n j l) ∙ back_is unit ∙ ap (image numbers) (middle_is unit ∙ goes)
           ∙ of_basis.left (bit_xor unit s) sum_in in
@@ -185,7 +181,7 @@ outer_nonsingular a t changed outer low tops inside changed_size outer_size trai
 pub constant_near : (plus n low : ℕ) → n ≤ 52 → low ≤ n → plus < 2 ^ n
     → bit_xor plus (plus / 2 ^ low * 2 ^ low % 18446744073709551616) < 2 ^ low
 constant_near plus n low few l h =
-    let b = put_back (plus / 2 ^ low) n low few l (cut_above n low plus l h) in
+    let b = put_back (plus / 2 ^ low) n low few l (cut_below n low plus l h) in
     subst (λ c. c < 2 ^ low) (sym (ap (bit_xor plus) b.0 ∙ less_high plus low)) (mod-lt plus (pow_pos low))
 
 -- so what takes each place back moves it within its tile
@@ -210,4 +206,4 @@ tile_start home basis low tile plus outer_plus moved le same moves back near =
     ap (λ c. bit_xor c d) (xor_comm plus g) ∙ xor_assoc g plus d ∙ ap (bit_xor g) (xor_cancel plus outer_plus)
     ∙ ap (bit_xor g) (sym back) ∙ sym (xor_sum-xor (column home) home.n plus moved) in
     subst (IsInTile basis tile) e
-    (in_tile_xor basis tile (bit_xor plus g) d moves (record { number = d; below = up_to low tile d le near; place = same d near }))
+    (in_tile_xor basis tile (bit_xor plus g) d moves (record { number = d; below = below_wider d low tile near le; place = same d near }))

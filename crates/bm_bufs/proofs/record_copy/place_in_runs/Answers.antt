@@ -1,8 +1,9 @@
 use Rattle.std.proofs.Common.{◌≡◌, ◌+◌, ◌*◌, ◌/◌, ◌%◌, ◌^◌, ◌<◌, ◌≤◌, sym, ap, ◌∙◌, subst, arith}
 use Rattle.std.proofs.lemmas.Nat.{one_shl}
 use Rattle.bm_bufs.specs.Places.{places_by, PlacesRecords}
-use Rattle.bm_bufs.proofs.RunLemmas.{run_nonsingular, PlacesRecords-runs, runs_of_load, runs_of_row, runs_inside, run_inside, run_fits}
+use Rattle.bm_bufs.proofs.RunLemmas.{run_nonsingular, PlacesRecords-runs, runs_of_load, runs_of_row, runs_inside, run_fits}
 use Rattle.bm_bufs.proofs.record_copy.place_in_runs.Goals as goal
+use Rattle.bm_base.proofs.PowerLemmas.{cut_below}
 
 pub overflow_mul-run : goal.overflow_mul-run
 overflow_mul-run c =
@@ -22,7 +23,7 @@ pub place_known-requires-clause-plus : goal.place_known-requires-clause-plus
 place_known-requires-clause-plus c =
     let low = c.run_bits-low.result in
     subst (λ k. c.args.plus / 2 ^ low < 2 ^ k) (sym c.run_matrix-runs.ensures.size)
-    (run_inside c.args.plus c.args.a.now.n low (omega (arith, c.run_bits-low.ensures.keeps.inside)) c.requires.plus)
+    (cut_below c.args.a.now.n low c.args.plus (omega (arith, c.run_bits-low.ensures.keeps.inside)) c.requires.plus)
 
 pub place_known-requires-clause-load : goal.place_known-requires-clause-load
 place_known-requires-clause-load c =

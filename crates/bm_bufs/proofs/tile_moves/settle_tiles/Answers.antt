@@ -3,9 +3,9 @@ use Rattle.std.proofs.lemmas.Nat.{one_shl}
 use Rattle.std.proofs.lemmas.Bool.{cases_eq}
 use Rattle.bm_bufs.specs.Tiles.{origin}
 use Rattle.bm_bufs.specs.TileMoves.{GathersTile, FillsTile}
-use Rattle.bm_bufs.proofs.RunLemmas.{run_inside}
 use Rattle.bm_bufs.proofs.TileLemmas.{kept_tile, origin_below, settled}
 use Rattle.bm_bufs.proofs.tile_moves.settle_tiles.Goals as goal
+use Rattle.bm_base.proofs.PowerLemmas.{cut_below}
 
 pub loop-o-preserved : goal.loop-o-preserved
 loop-o-preserved c =
@@ -39,6 +39,6 @@ returns-clause-moved c =
     let test = c.loop-o-test.false in
     record {
       moved = settled m m.placing.width c.args.load.now c.loop-o.load (λ z short. c.loop-o.invariant.moved z short
-          (let inside = run_inside z m.basis.n m.tile (omega (arith, m.tile_in, m.basis_size)) short in omega arith));
+          (let inside = cut_below m.basis.n m.tile z (omega (arith, m.tile_in, m.basis_size)) short in omega arith));
       size = c.loop-o.invariant.load;
     }

@@ -5,10 +5,10 @@ use Rattle.std.proofs.Math.Pow.{pow_mono}
 use Rattle.bm_gf2.specs.Matrix.{column, image}
 use Rattle.bm_butter.specs.Groups.{pick, GroupsDone, spread, spread_two}
 use Rattle.bm_butter.proofs.PlaceLemmas.{place}
-use Rattle.bm_butter.proofs.SpreadLemmas.{two_halves}
 use Rattle.bm_butter.proofs.GroupLemmas.{IsGroup-same, GroupsDone-none, GroupsDone-more}
 use Rattle.bm_butter.proofs.NumberLemmas.{number_place, numbers_told, spread_short, HoldFour-by_columns, SameRecords-numbers}
 use Rattle.bm_butter.proofs.at_places.two_by_numbers.Goals as goal
+use Rattle.bm_base.proofs.PowerLemmas.{two_halves}
 
 pub loop-group-init : goal.loop-group-init
 loop-group-init g c =

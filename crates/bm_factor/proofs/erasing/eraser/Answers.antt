@@ -2,9 +2,9 @@ use Rattle.std.proofs.Common.{ℕ, ◌<◌, ◌≤◌, ◌∙◌, subst, arith}
 use Rattle.bm_gf2.specs.Matrix.{column}
 use Rattle.bm_forms.specs.Mld.{IsMld}
 use Rattle.bm_factor.specs.Eraser.{IsEraser}
-use Rattle.bm_factor.proofs.InsertLemmas.{cut_below}
 use Rattle.bm_factor.proofs.EraserLemmas.{turn_below, turn_erased, erasing_none, erasing_all, eraser_inverse, eraser_mld}
 use Rattle.bm_factor.proofs.erasing.eraser.Goals as goal
+use Rattle.bm_base.proofs.PowerLemmas.{cut_below}
 
 pub loop-j-init : goal.loop-j-init
 loop-j-init c =

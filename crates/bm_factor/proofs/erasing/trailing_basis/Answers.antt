@@ -1,8 +1,8 @@
 use Rattle.std.proofs.Common.{ℕ, ◌/◌, ◌^◌, ◌∙◌, ap, arith, slice_index}
 use Rattle.bm_gf2.specs.Matrix.{column}
-use Rattle.bm_factor.proofs.InsertLemmas.{cut_below}
 use Rattle.bm_factor.proofs.EraserLemmas.{basis_more}
 use Rattle.bm_factor.proofs.erasing.trailing_basis.Goals as goal
+use Rattle.bm_base.proofs.PowerLemmas.{cut_below}
 
 pub insert-requires : goal.insert-requires
 insert-requires c =

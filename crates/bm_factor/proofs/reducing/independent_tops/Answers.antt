@@ -2,11 +2,12 @@ use Rattle.std.proofs.Common.{ℕ, ◌≡◌, ◌+◌, ◌/◌, ◌^◌, ◌<◌
 use Rattle.std.proofs.Common.{arith}
 use Rattle.std.proofs.lemmas.List.{length-set}
 use Rattle.bm_gf2.specs.Matrix.{column}
-use Rattle.bm_factor.proofs.InsertLemmas.{cut_below, insert_same}
+use Rattle.bm_factor.proofs.InsertLemmas.{insert_same}
 use Rattle.bm_factor.proofs.ReducerLemmas.{IsReducing, reducing_none}
 use Rattle.bm_factor.proofs.ReducerTurnLemmas.{few_kept, turn_fresh, turn_known, turn_below, reducing_all, reducing_nonsingular}
 use Rattle.bm_factor.proofs.reducing.independent_tops.Goals.{then-insert, else-insert}
 use Rattle.bm_factor.proofs.reducing.independent_tops.Goals as goal
+use Rattle.bm_base.proofs.PowerLemmas.{cut_below}
 
 pub loop-j-init : goal.loop-j-init
 loop-j-init c =

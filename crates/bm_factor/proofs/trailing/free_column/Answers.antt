@@ -1,7 +1,7 @@
 use Rattle.std.proofs.Common.{◌<◌, arith}
 use Rattle.bm_gf2.specs.Matrix.{column}
-use Rattle.bm_factor.proofs.InsertLemmas.{cut_below}
 use Rattle.bm_factor.proofs.trailing.free_column.Goals as goal
+use Rattle.bm_base.proofs.PowerLemmas.{cut_below}
 
 pub reduce-requires : goal.reduce-requires
 reduce-requires c =

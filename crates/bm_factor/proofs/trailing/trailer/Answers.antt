@@ -2,10 +2,10 @@ use Rattle.std.proofs.Common.{◌<◌, ◌≤◌, ◌-◌, ◌∙◌, ℕ, subst
 use Rattle.std.proofs.lemmas.Nat.{xor_lt}
 use Rattle.bm_gf2.specs.Matrix.{column}
 use Rattle.bm_factor.specs.Trailer.{IsTrailer}
-use Rattle.bm_factor.proofs.InsertLemmas.{cut_below}
 use Rattle.bm_factor.proofs.TrailerLemmas.{turn_added, turn_kept, turn_free, trailing_all, trailing_none, trailer_inverse}
 use Rattle.bm_factor.proofs.trailing.trailer.Goals as goal
 use Rattle.bm_factor.proofs.trailing.trailer.Goals.{then-not-insert, else-not-insert}
+use Rattle.bm_base.proofs.PowerLemmas.{cut_below}
 
 pub loop-j-init : goal.loop-j-init
 loop-j-init c =

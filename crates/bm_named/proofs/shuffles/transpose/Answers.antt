@@ -2,7 +2,7 @@ use Rattle.std.proofs.Common.{◌≡◌, ℕ, ◌+◌, ◌-◌, ◌*◌, ◌<◌
 use Rattle.std.proofs.lemmas.Nat.{xor_lt}
 use Rattle.bm_gf2.specs.Matrix.{image}
 use Rattle.bm_gf2.specs.Affine.{affine_image}
-use Rattle.bm_rank.proofs.RowCutLemmas.{image_below}
+use Rattle.bm_gf2.proofs.ShiftLemmas.{image_below}
 use Rattle.bm_named.proofs.ShuffleLemmas.{transposed_value, transposed_source}
 use Rattle.bm_named.proofs.shuffles.transpose.Goals as goal
 
