@@ -13,14 +13,23 @@ use Rattle.bm_forms.specs.declared.job.Job.{Job}
 use Rattle.bm_forms.specs.declared.pass_form.PassForm.{PassForm}
 use Rattle.bm_forms.specs.Job.{meaning}
 use Rattle.bm_forms.specs.Plan.{all_passed}
-use Rattle.bm_control.specs.Pages.{job_body, job_gate, slot_gate, no_slot, HasOpenJob, HasLoadBody, HasJobBody}
+use Rattle.bm_control.specs.Bodies.{IsPartBody}
+use Rattle.bm_control.specs.Pages.{job_body, job_gate, slot_body, slot_gate, no_slot, HasOpenJob, HasLoadBody, HasJobBody}
 use Rattle.bm_control.specs.Consistent.{input_of, GatesAre, SlotStands, JobStands, IsConsistent}
-use Rattle.bm_control.specs.Progress.{IsCounted, IsGone}
+use Rattle.bm_control.specs.Progress.{Counts, IsCounted, IsGone}
 use Rattle.bm_control.specs.State.{SlotRead, CountedOf}
 use Rattle.bm_control.proofs.EqualLemmas.{some_injective, none_some}
 use Rattle.bm_control.proofs.MomentLemmas.{gate_cases}
 use Rattle.bm_control.proofs.StateLemmas.{slot_old, slot_now, counted_none, counted_both}
 use Rattle.bm_control.proofs.UniqueLemmas.{job_unique, passes_unique, done_unique}
+
+-- a slot that counts also counts in contents with the same pages
+pub counts_kept : (s : Shape) (done slot loads : ℕ) (a b : Contents) → ((k : ℕ) → page_at b k ≡ page_at a k) → Counts s a done slot loads
+    → Counts s b done slot loads
+counts_kept s done slot loads a b same c = record {
+  opened = same (slot_gate slot) ∙ c.opened;
+  body = subst (λ (p : List ℕ). IsPartBody s p (done + 1) loads) (sym (same (slot_body slot))) c.body;
+}
 
 -- what is found of a slot that tells the truth if it is open
 found_slot : (s : Shape) (v : Contents) (forms : List PassForm) (done slot : ℕ)

@@ -4,27 +4,20 @@ use Rattle.std.proofs.Common.{◌≡◌, inl, inr, ℕ, ◌+◌, ◌*◌, ◌≤
 use Rattle.std.proofs.lemmas.Bool.{cases_lt}
 use Rattle.bm_base.specs.declared.shape.Shape.{Shape}
 use Rattle.bm_base.specs.Contents.{Contents, page_at}
-use Rattle.bm_control.specs.Bodies.{IsJobBody, IsPartBody}
+use Rattle.bm_control.specs.Bodies.{IsJobBody}
 use Rattle.bm_control.specs.Consistent.{GatesAre}
-use Rattle.bm_control.specs.Pages.{load_body, job_body, job_gate, pass_gate, slot_body, slot_gate}
-use Rattle.bm_control.specs.Progress.{Counts, IsCounted, IsGone}
+use Rattle.bm_control.specs.Pages.{load_body, job_body, job_gate, pass_gate}
+use Rattle.bm_control.specs.Progress.{IsCounted, IsGone}
+use Rattle.bm_control.proofs.GoneLemmas.{counts_kept}
 use Rattle.bm_control.proofs.MomentLemmas.{load_unique}
 use Rattle.bm_control.proofs.UniqueLemmas.{passes_unique, every_unique, done_unique}
-
--- a slot that counts also counts in contents with the same pages
-counts_there : (s : Shape) (done slot loads : ℕ) (a b : Contents) → ((k : ℕ) → page_at b k ≡ page_at a k) → Counts s a done slot loads
-    → Counts s b done slot loads
-counts_there s done slot loads a b same c = record {
-  opened = same (slot_gate slot) ∙ c.opened;
-  body = subst (λ (p : List ℕ). IsPartBody s p (done + 1) loads) (sym (same (slot_body slot))) c.body;
-}
 
 -- no more loads are counted here than there
 part_least : (s : Shape) (every done p i q j : ℕ) (a b : Contents) → every ≤ loads_of s → ((k : ℕ) → page_at b k ≡ page_at a k)
     → IsCounted s a every done p i → IsCounted s b every done q j → p ≤ q
 part_least s every done p i q j a b few same one two = elim (cases_lt i 2) [
   | inl less ↦ elim (cases_lt every (loads_of s)) [
-    | inl parts ↦ (two.most parts i p less (counts_there s done i p a b same (one.counts less))).1
+    | inl parts ↦ (two.most parts i p less (counts_kept s done i p a b same (one.counts less))).1
     | inr whole ↦ absurd (let is = one.none (omega (arith, whole, few)) in omega (arith, is, less))
   ]
   | inr more ↦ (let none = one.nothing (let r = one.range in omega (arith, r, more)) in omega (arith, none))

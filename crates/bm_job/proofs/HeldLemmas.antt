@@ -34,6 +34,7 @@ use Rattle.bm_control.specs.Pages.{load_gate, job_gate, load_body, job_body, pas
 use Rattle.bm_control.specs.Pages.{HasOpenJob, HasLoadBody, HasJobBody}
 use Rattle.bm_control.specs.Consistent.{input_of, GatesAre, SlotStands, JobStands, IsConsistent}
 use Rattle.bm_control.specs.Progress.{Counts, IsCounted}
+use Rattle.bm_control.proofs.GoneLemmas.{counts_kept}
 use Rattle.bm_control.specs.Sound.{IsSound}
 use Rattle.bm_control.proofs.ImageLemmas.{image_self}
 use Rattle.bm_control.proofs.MomentLemmas.{load_unique}
@@ -283,13 +284,6 @@ held_working s job passes done every part slot load form old new stands sizes he
   where
     page : (k : ℕ) → page_at new.contents k ≡ page_at old.contents k
     page k = only.contents (page_unit k) (outside_target s form done load (page_unit k) next.of_shape (λ is. is))
-
-    counts_kept : (s : Shape) (done slot loads : ℕ) (a b : Contents) → ((k : ℕ) → page_at b k ≡ page_at a k) → Counts s a done slot loads
-        → Counts s b done slot loads
-    counts_kept s done slot loads a b pages c = record {
-      opened = pages (slot_gate slot) ∙ c.opened;
-      body = subst (λ (p : List ℕ). IsPartBody s p (done + 1) loads) (sym (pages (slot_body slot))) c.body;
-    }
 
     counted_kept : (s : Shape) (every done part slot : ℕ) (a b : Contents) → ((k : ℕ) → page_at b k ≡ page_at a k)
         → IsCounted s a every done part slot
