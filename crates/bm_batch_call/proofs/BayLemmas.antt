@@ -32,6 +32,7 @@ use Rattle.bm_top.proofs.AttachLemmas.{attached_from}
 use Rattle.bm_top.proofs.CarryWholeLemmas.{none_stands, new_closed}
 use Rattle.bm_top.proofs.ExitLemmas.{SameDisks-refl, SameCalls-refl}
 use Rattle.bm_top.proofs.SameDisksLemmas.{sound_kept, calls_kept}
+use Rattle.bm_top.proofs.StepAnswerLemmas.{disks_no_input}
 use Rattle.bm_batch_call.specs.declared.words.BatchVerb.{BatchVerb}
 use Rattle.bm_batch_call.specs.declared.words.BatchVerb.TheVariants.{Batch, Run}
 use Rattle.bm_batch_call.specs.Bays.{most_rows, KeepsDisks, LoadsWhole, BayLeaves, BayShut, BayFilled, FillCause, FillRefusal}
@@ -185,7 +186,7 @@ bay_not_made t s source old new e well why counts keeps failed = record {
         (λ (made : NewDisks t.stands t.contents (dims_of s) old new). new_closed t.stands t.contents (dims_of s) old new told.1 made)
         either;
   };
-  refused = λ of told. absurd (not_input e of);
+  refused = λ of told. absurd (disks_no_input e of);
 }
   where
     either : SameOrNewDisks t.stands t.contents (dims_of s) old new
@@ -199,13 +200,6 @@ bay_not_made t s source old new e well why counts keeps failed = record {
     cause disks.Exists why failed = why.0
     cause disks.NoDisks why failed = why.0
     cause disks.WrongDims why failed = why.0
-
-    not_input : (e : DisksError) → ¬ IsOfInput (disks_status e)
-    not_input disks.RackFault of = of
-    not_input disks.OutOfMemory of = of
-    not_input disks.Exists of = of
-    not_input disks.NoDisks of = of
-    not_input disks.WrongDims of = of
 
 -- ---- attached, or not
 

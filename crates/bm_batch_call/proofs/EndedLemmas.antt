@@ -17,6 +17,7 @@ use Rattle.bm_top.specs.Moment.{SourceView, Tells}
 use Rattle.bm_top.specs.Status.{IsOfInput}
 use Rattle.bm_top.specs.declared.status.Status.TheVariants as status
 use Rattle.bm_top.proofs.SameDisksLemmas.{sound_kept}
+use Rattle.bm_top.proofs.StepAnswerLemmas.{run_not_done, run_no_input}
 use Rattle.bm_batch_call.specs.declared.words.BatchVerb.{BatchVerb}
 use Rattle.bm_batch_call.specs.declared.words.BatchVerb.TheVariants.{Batch, Run}
 use Rattle.bm_batch_call.specs.Bays.{RunRefusal, BayRan, BayReady}
@@ -76,10 +77,10 @@ pub run_ended : (t : Tells) (verb : BatchVerb) (w : Work) (passes : ℕ → ℕ)
     → length new.bays ≡ length mid.bays → AllRan t w passes slots d mid.bays new.bays → IsFirstEnded slots e
     → BatchCall t verb w start (run_status e) new
 run_ended t verb w passes slots d e start mid new r many out input count ran first =
-    stopped t verb w start (run_status e) new (cause e first) (not_done e) (not_cut e) (out ∙ r.out) (count ∙ r.count)
+    stopped t verb w start (run_status e) new (cause e first) (run_not_done e) (not_cut e) (out ∙ r.out) (count ∙ r.count)
     (λ k below. leaves_ready t verb w.shape (w.job k) _ _ _ _ _ (r.bays k below) (ran_kept t w.shape (w.job k) _ _ _ _ (ran k below))
     (whole_part t verb w _ _ k below r.input))
-    (λ of. absurd (not_input e of)) (λ is. absurd (not_memory e is))
+    (λ of. absurd (run_no_input e of)) (λ is. absurd (not_memory e is))
     (subst (λ (v : SourceView). ReadsFew t verb w start.input v) (sym input) (reads_few t verb w _ _ r.input))
     (let low = r.input_faults in let same = ap (λ (v : SourceView). v.faults) input in omega (arith, low, same))
   where
@@ -128,13 +129,6 @@ run_ended t verb w passes slots d e start mid new r many out input count ran fir
     cause (run.BadPage page) f = first_of (run.BadPage page) f (λ v k. HasWrongPage t page v)
         (bad_by t verb w f.at _ _ _ page _ _ _ (ready (run.BadPage page) f) (turned (run.BadPage page) f) (f.ended d))
 
-    not_done : (e : RunError) → run_status e ≢ status.Done
-    not_done run.Failed is = absurd (cc)
-    not_done run.NotLoaded is = absurd (cc)
-    not_done run.OtherShape is = absurd (cc)
-    not_done run.OtherJob is = absurd (cc)
-    not_done (run.BadPage page) is = absurd (cc)
-
     not_cut : (e : RunError) → run_status e ≢ status.SinkFault
     not_cut run.Failed is = absurd (cc)
     not_cut run.NotLoaded is = absurd (cc)
@@ -148,10 +142,3 @@ run_ended t verb w passes slots d e start mid new r many out input count ran fir
     not_memory run.OtherShape is = absurd (cc)
     not_memory run.OtherJob is = absurd (cc)
     not_memory (run.BadPage page) is = absurd (cc)
-
-    not_input : (e : RunError) → ¬ IsOfInput (run_status e)
-    not_input run.Failed of = of
-    not_input run.NotLoaded of = of
-    not_input run.OtherShape of = of
-    not_input run.OtherJob of = of
-    not_input (run.BadPage page) of = of

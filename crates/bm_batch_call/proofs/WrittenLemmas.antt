@@ -18,7 +18,7 @@ use Rattle.bm_batch.specs.Batches.{view_at}
 use Rattle.bm_top.specs.Moment.{SourceView, SinkView, Tells}
 use Rattle.bm_top.specs.Status.{IsOfInput}
 use Rattle.bm_top.specs.declared.status.Status.TheVariants as status
-use Rattle.bm_top.proofs.DumpLemmas.{dump_answer, dumped_ok}
+use Rattle.bm_top.proofs.DumpLemmas.{dump_answer, dumped_ok, dump_no_input}
 use Rattle.bm_top.proofs.SameDisksLemmas.{sound_kept}
 use Rattle.bm_batch_call.specs.declared.words.BatchVerb.{BatchVerb}
 use Rattle.bm_batch_call.specs.Bays.{BayRan}
@@ -78,7 +78,7 @@ run_dumped t verb w passes slots d result start mid now new r many out input cou
   count = dumps.count ∙ count ∙ r.count;
   bays = λ k below. leaves_ready t verb w.shape (w.job k) _ _ _ _ _ (r.bays k below)
       (looked_kept t w.shape (w.job k) (passes k) _ _ _ _ (ran k below) (looked k below)) (whole_part t verb w _ _ k below r.input);
-  refused = λ of. absurd (not_input result of);
+  refused = λ of. absurd (dump_no_input result of);
   memory = λ is. absurd (not_memory result is);
   few = subst (λ (v : SourceView). ReadsFew t verb w start.input v) (sym input) (reads_few t verb w _ _ r.input);
   input_faults = (let low = r.input_faults in let same = ap (λ (v : SourceView). v.faults) input in omega (arith, low, same));
@@ -100,11 +100,6 @@ run_dumped t verb w passes slots d result start mid now new r many out input cou
     late (Ok x) = tt
     late (Err dump.Failed) = tt
     late (Err dump.SinkFault) = tt
-
-    not_input : (x : Result (Unit {0}) DumpError) → ¬ IsOfInput (dump_answer x)
-    not_input (Ok x) of = of
-    not_input (Err dump.Failed) of = of
-    not_input (Err dump.SinkFault) of = of
 
     not_memory : (x : Result (Unit {0}) DumpError) → dump_answer x ≢ status.OutOfMemory
     not_memory (Ok x) is = absurd (cc)

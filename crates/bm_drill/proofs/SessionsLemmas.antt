@@ -10,6 +10,7 @@ use Rattle.bm_base.specs.Contents.{Contents, page_at, HasSizes}
 use Rattle.bm_base.specs.Count.{raised, Rose}
 use Rattle.bm_base.specs.Records.{record_at}
 use Rattle.bm_base.specs.Shape.{dims_of, loads_of}
+use Rattle.bm_base.proofs.CountLemmas.{rose_later}
 use Rattle.bm_forms.specs.declared.job.Job.{Job}
 use Rattle.bm_forms.specs.Job.{meaning, JobFits}
 use Rattle.bm_forms.proofs.JobLemmas.{meaning-same}
@@ -214,9 +215,5 @@ pub restarts_few : (ts tc : Bool) (s : Shape) (job : Job) (passes every restarts
     → mid.faults ≤ new.faults → new.faults < 2 ^ 64 → restarts ≤ stops → RestartsFew stops restarts old new
 restarts_few ts tc s job passes every restarts stops old mid new x low most few = record {
   few = few;
-  cause = λ more. rose_then old.faults mid.faults new.faults (x.later more).cause low most;
+  cause = λ more. rose_later old.faults mid.faults new.faults low most (x.later more).cause;
 }
-  where
-    rose_then : (a b c : ℕ) → Rose a b → b ≤ c → c < 2 ^ 64 → Rose a c
-    rose_then a b c (inl less) more fits = inl (omega (arith, less, more))
-    rose_then a b c (inr last) more fits = inr (omega (arith, last, more, fits))

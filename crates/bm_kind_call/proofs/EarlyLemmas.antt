@@ -24,6 +24,7 @@ use Rattle.bm_top.proofs.CarryLoadLemmas.{LoadedBy, carry_not_loaded}
 use Rattle.bm_top.proofs.ExitLemmas.{MovesFew-same, AppendsFront-none}
 use Rattle.bm_top.proofs.MemoryLemmas.{memory_refused}
 use Rattle.bm_top.proofs.SameDisksLemmas.{calls_kept}
+use Rattle.bm_top.proofs.StepAnswerLemmas.{disks_not_done, disks_no_sink, load_not_done, load_no_sink}
 use Rattle.bm_kind_call.specs.Kinds.{walsh_passes, kinded}
 use Rattle.bm_kind_call.specs.Exits.{shape_task, KindMay, KindCall}
 
@@ -69,7 +70,7 @@ pub kind_not_made : (t : Tells) (file : KindFile) (d : Devices) (old new : RackV
     → (IsTrue old.steady → IsFalse old.stopping → e ≢ disks.RackFault)
     → KindCall t file (record d { rack = old }) (disks_status e) (record d { rack = new })
 kind_not_made t file d old new e well why none counts keeps rose sure =
-    kind_early t file (record d { rack = old }) (disks_status e) (record d { rack = new }) (may e) (not_done e) (no_sink e) refl
+    kind_early t file (record d { rack = old }) (disks_status e) (record d { rack = new }) (may e) (disks_not_done e) (disks_no_sink e) refl
     (MovesFew-same t.stands t.contents _ old new well (calls_kept _ _ old new well counts).moves)
     (carry_not_made t (shape_task file.shape) d old new e well why none counts keeps rose sure)
   where
@@ -80,25 +81,11 @@ kind_not_made t file d old new e well why none counts keeps rose sure =
     may disks.NoDisks = tt
     may disks.WrongDims = tt
 
-    not_done : (e : DisksError) → disks_status e ≢ Done
-    not_done disks.RackFault is = absurd (cc)
-    not_done disks.OutOfMemory is = absurd (cc)
-    not_done disks.Exists is = absurd (cc)
-    not_done disks.NoDisks is = absurd (cc)
-    not_done disks.WrongDims is = absurd (cc)
-
-    no_sink : (e : DisksError) → disks_status e ≢ SinkFault
-    no_sink disks.RackFault is = absurd (cc)
-    no_sink disks.OutOfMemory is = absurd (cc)
-    no_sink disks.Exists is = absurd (cc)
-    no_sink disks.NoDisks is = absurd (cc)
-    no_sink disks.WrongDims is = absurd (cc)
-
 -- the input is not loaded
 pub kind_not_loaded : (t : Tells) (file : KindFile) (old mid new : Devices) (e : LoadError) → IsMadeFrom t (shape_task file.shape) old mid
     → LoadedBy t (shape_task file.shape) mid new (Err e) → KindCall t file old (load_status e) new
 kind_not_loaded t file old mid new e made by =
-    kind_early t file old (load_status e) new (may e) (not_done e) (no_sink e) (by.out ∙ made.out) few
+    kind_early t file old (load_status e) new (may e) (load_not_done e) (load_no_sink e) (by.out ∙ made.out) few
     (carry_not_loaded t (shape_task file.shape) old mid new e made by)
   where
     may : (e : LoadError) → KindMay (load_status e)
@@ -106,18 +93,6 @@ kind_not_loaded t file old mid new e made by =
     may load.DataFault = tt
     may (load.DataShort got) = tt
     may load.DataLong = tt
-
-    not_done : (e : LoadError) → load_status e ≢ Done
-    not_done load.Failed is = absurd (cc)
-    not_done load.DataFault is = absurd (cc)
-    not_done (load.DataShort got) is = absurd (cc)
-    not_done load.DataLong is = absurd (cc)
-
-    no_sink : (e : LoadError) → load_status e ≢ SinkFault
-    no_sink load.Failed is = absurd (cc)
-    no_sink load.DataFault is = absurd (cc)
-    no_sink (load.DataShort got) is = absurd (cc)
-    no_sink load.DataLong is = absurd (cc)
 
     few : MovesFew (2 * stripes file.shape * (walsh_passes file.shape + 1)) old.rack new.rack
     few =

@@ -36,7 +36,7 @@ use Rattle.bm_top.specs.commands.Carry.{IsLoadedFrom}
 use Rattle.bm_top.specs.declared.words.Verb.TheVariants.{Carry}
 use Rattle.bm_top.specs.declared.status.Status.TheVariants.{RackFault}
 use Rattle.bm_top.proofs.CarryWholeLemmas.{whole_loaded}
-use Rattle.bm_top.proofs.DumpLemmas.{AreaDumped, dump_answer, dumped_ok, dumped_failed, dumped_complete}
+use Rattle.bm_top.proofs.DumpLemmas.{AreaDumped, dump_answer, dumped_ok, dumped_failed, dumped_complete, dump_no_input}
 use Rattle.bm_top.proofs.ExitLemmas.{CallsGrow-trans, AppendsFront-none}
 use Rattle.bm_top.proofs.FaultLemmas.{cause_later}
 use Rattle.bm_kind_call.specs.Exits.{shape_task, KindMay, KindCall}
@@ -144,11 +144,6 @@ dumped_late (Ok x) of = of
 dumped_late (Err dump.Failed) of = of
 dumped_late (Err dump.SinkFault) of = of
 
-dumped_no_input : (r : Result (Unit {0}) DumpError) → ¬ IsOfInput (dump_answer r)
-dumped_no_input (Ok x) of = of
-dumped_no_input (Err dump.Failed) of = of
-dumped_no_input (Err dump.SinkFault) of = of
-
 -- why one comes
 dumped_cause : (t : Tells) (file : KindFile) (d e : Devices) (r : Result (Unit {0}) DumpError) → (IsTrue t.stands → d.rack.stands ≡ None)
     → (r ≡ Err dump.SinkFault → Rose d.out.faults e.out.faults) → HasCause (r ≡ Err dump.Failed) d.rack e.rack
@@ -179,12 +174,12 @@ kind_dumped t file d old mid look new out out' passes moves area r fits same at 
   leaves = record {
     front = λ told. subst (λ (xs : List ℕ). AppendsFront xs out'.taken (kinded file old.input.left)) taken
         (subst (λ (xs : List ℕ). AppendsFront out.taken out'.taken xs) (made told.0.1 told.1) (k.front told.2 told.0.1));
-    unwritten = λ of. ⊎_elim (λ before. absurd (dumped_late r before)) (λ input. absurd (dumped_no_input r input)) of;
+    unwritten = λ of. ⊎_elim (λ before. absurd (dumped_late r before)) (λ input. absurd (dump_no_input r input)) of;
     unread = λ of. absurd (dumped_late r of);
     written = λ told. inr (loaded.size told, loaded.ended told);
     whole = λ told is. (loaded.size told, loaded.ended told);
-    refused = λ told of. absurd (dumped_no_input r of);
-    made = λ told of. absurd (dumped_no_input r of);
+    refused = λ told of. absurd (dump_no_input r of);
+    made = λ told of. absurd (dump_no_input r of);
     cut = λ told is. after told;
     opened = λ told input none. whole_loaded file.shape old.input.left mid new loaded.clean (input_kept file mid new only)
         (loaded.size input) (loaded.records input told.1);

@@ -169,11 +169,6 @@ kernel_digits-words f (suc j) xs ys some same t short =
     kernel_on-words f j (suc j) (kernel_digits f j xs) (kernel_digits f j ys) (omega arith)
     (digits_words f j (suc j) xs ys (omega arith) same) t short
 
--- no digit, and one more
-pub kernel_digits-none : (f : ℕ → ℕ → ℕ × ℕ) (xs : ℕ → List ℕ) (t : ℕ) → xs t ≡ kernel_digits f 0 xs t
-unfolding kernel_along
-kernel_digits-none f xs t = refl
-
 pub kernel_digits-more : (f : ℕ → ℕ → ℕ × ℕ) (j count : ℕ) (xs ys zs : ℕ → List ℕ) → j < count
     → ((t : ℕ) → t < 2 ^ count → ys t ≡ kernel_digits f j xs t)
     → ((t : ℕ) → t < 2 ^ count → zs t ≡ kernel_on f j ys t)

@@ -6,6 +6,7 @@ use Rattle.std.proofs.lemmas.Bool.Decides.{Decides-and, Decides-or, Decides-not,
 use Rattle.std.specs.Bool.{Decides}
 use Rattle.bm_base.specs.declared.dims.Dims.{Dims}
 use Rattle.bm_base.specs.Count.{Rose}
+use Rattle.bm_base.proofs.CountLemmas.{rose_later, rose_earlier}
 use Rattle.bm_mirror.specs.TwoSides.{TwoSides, preferred}
 use Rattle.bm_mirror.specs.Lasting.{History, IsWell, mirror_facts, has_risen, fell_or, stands_well, fell_or_both}
 
@@ -128,13 +129,6 @@ pub record IsLater (told : Bool) (s : TwoSides) (h : History) (s' : TwoSides) (h
   pub both : IsTrue told → IsStarved s h ⊎ IsNew s h
       → (Rose s.left.faults s'.left.faults ⊎ Rose s.right.faults s'.right.faults) ⊎ (AreLevel h' ⊎ (IsStarved s' h' ⊎ IsNew s' h'))
 
--- a rise after a rise, or after none
-rise_later : (count n n' : ℕ) → n ≤ n' → n' < 2 ^ 64 → Rose count n → Rose count n'
-rise_later count n n' le fits rose = ⊎_elim (λ lt. inl (omega arith)) (λ last. inr (omega arith)) rose
-
-rise_from : (count n n' : ℕ) → count ≤ n → Rose n n' → Rose count n'
-rise_from count n n' le rose = ⊎_elim (λ lt. inl (omega arith)) (λ last. inr last) rose
-
 -- a side that is not level, after a call
 well_later : (h h' : History) (was now is_in : Bool) → (IsFalse was → IsTrue now → IsWell h' is_in) → (¬ IsTrue was)
     → StandsWell h' now is_in
@@ -149,10 +143,10 @@ module _ (told : Bool) (s : TwoSides) (h : History) (s' : TwoSides) (h' : Histor
   left_later count x = (
     omega (arith, x.0, k.left_count),
     elim x.1 [
-      | inl rose ↦ inl (rise_later count s.left.faults s'.left.faults k.left_count k.left_fits rose)
+      | inl rose ↦ inl (rose_later count s.left.faults s'.left.faults k.left_count k.left_fits rose)
       | inr well ↦ elim well [
         | inl out ↦ inr (well_later h h' h.level.left h'.level.left s'.sides.left k.left_since out)
-        | inr fine ↦ ⊎_elim (λ rose. inl (rise_from count s.left.faults s'.left.faults x.0 rose)) (λ fine. inr (inr fine))
+        | inr fine ↦ ⊎_elim (λ rose. inl (rose_earlier count s.left.faults s'.left.faults x.0 rose)) (λ fine. inr (inr fine))
             (k.left_well fine)
       ]
     ],
@@ -163,13 +157,13 @@ module _ (told : Bool) (s : TwoSides) (h : History) (s' : TwoSides) (h' : Histor
   right_later count x = (
     omega (arith, x.0, k.right_count),
     elim x.1 [
-      | inl rose ↦ inl (rise_later count s.right.faults s'.right.faults k.right_count k.right_fits rose)
+      | inl rose ↦ inl (rose_later count s.right.faults s'.right.faults k.right_count k.right_fits rose)
       | inr excused ↦ elim excused [
         | inl lapsed ↦ inr (inl (k.lapsed lapsed))
         | inr well ↦ elim well [
           | inl out ↦ inr (inr (well_later h h' h.level.right h'.level.right s'.sides.right k.right_since out))
           | inr fine ↦ elim (k.right_well fine) [
-            | inl rose ↦ inl (rise_from count s.right.faults s'.right.faults x.0 rose)
+            | inl rose ↦ inl (rose_earlier count s.right.faults s'.right.faults x.0 rose)
             | inr stays ↦ elim stays [ inl lapsed ↦ inr (inl lapsed) | inr fine ↦ inr (inr (inr fine)) ]
           ]
         ]
@@ -181,13 +175,13 @@ module _ (told : Bool) (s : TwoSides) (h : History) (s' : TwoSides) (h' : Histor
   both_later left right tells x = (
     (omega (arith, x.0.0, k.left_count), omega (arith, x.0.1, k.right_count)),
     elim x.1 [
-      | inl rose ↦ inl (⊎_elim (λ r. inl (rise_later left s.left.faults s'.left.faults k.left_count k.left_fits r))
-          (λ r. inr (rise_later right s.right.faults s'.right.faults k.right_count k.right_fits r)) rose)
+      | inl rose ↦ inl (⊎_elim (λ r. inl (rose_later left s.left.faults s'.left.faults k.left_count k.left_fits r))
+          (λ r. inr (rose_later right s.right.faults s'.right.faults k.right_count k.right_fits r)) rose)
       | inr rest ↦ elim rest [
         | inl level ↦ inr (inl (k.left_level level.0, k.right_level level.1))
         | inr before ↦ elim (k.both tells before) [
-          | inl rose ↦ inl (⊎_elim (λ r. inl (rise_from left s.left.faults s'.left.faults x.0.0 r))
-              (λ r. inr (rise_from right s.right.faults s'.right.faults x.0.1 r)) rose)
+          | inl rose ↦ inl (⊎_elim (λ r. inl (rose_earlier left s.left.faults s'.left.faults x.0.0 r))
+              (λ r. inr (rose_earlier right s.right.faults s'.right.faults x.0.1 r)) rose)
           | inr after ↦ inr after
         ]
       ]

@@ -9,14 +9,6 @@ use Rattle.bm_bufs.specs.declared.tile_map.TileMap.{TileMap}
 use Rattle.bm_bufs.specs.Bufs.{Lists, FitsShape}
 use Rattle.bm_bufs.specs.TileMoves.{HasRoom}
 
--- row r ends within the load
-pub row_inside : (s : Shape) (r : ℕ) → r < load_stripes s → r * 2 ^ (s.b + s.d) + 2 ^ (s.b + s.d) ≤ 2 ^ s.m
-row_inside s r below =
-    let exponent : (s.m - s.b - s.d) + (s.b + s.d) ≡ s.m = omega (arith, s.keeps.stripe) in
-    let split : 2 ^ s.m ≡ load_stripes s * 2 ^ (s.b + s.d) = ap (λ x. 2 ^ x) (sym exponent) ∙ pow-add 2 (s.m - s.b - s.d) (s.b + s.d) in
-    let more : (r + 1) * 2 ^ (s.b + s.d) ≤ load_stripes s * 2 ^ (s.b + s.d) = mul-le-mul_right (2 ^ (s.b + s.d)) (omega arith) in
-    omega arith
-
 -- the lists of a shape have room for tiles of at most a row
 pub has_room : (s : Shape) (m : TileMap) (lists : Lists) → m.placing.a.n ≡ s.m → m.placing.width ≡ s.width
     → m.tile ≤ s.b + s.d → FitsShape s lists → HasRoom m lists

@@ -21,6 +21,7 @@ use Rattle.bm_top.specs.declared.status.Status.TheVariants.{Done, RackFault, Sin
 use Rattle.bm_top.proofs.ExitLemmas.{KeepsUnits-same, SameInput-same, MovesFew-same, CallsFew-same, CallsGrow-same, IsRead-none}
 use Rattle.bm_top.proofs.SameDisksLemmas.{sound_kept, calls_kept}
 use Rattle.bm_top.proofs.OpensLemmas.{opens_same}
+use Rattle.bm_top.proofs.StepAnswerLemmas.{disks_no_input, disks_no_sink, disks_not_done}
 
 -- what an attach leaves, whatever it answers
 pub attached_from : (ts tc : Bool) (old new : RackView) → IsWellFormed ts tc old → SameDisks old new → RaisesCounts 0 0 0 old new
@@ -65,34 +66,12 @@ may_attach told dims old Detect disks.WrongDims attaches why = tt
 may_attach told dims old Carry e attaches why = absurd attaches
 may_attach told dims old Drill e attaches why = absurd attaches
 
--- the answers are none of the input, the control file or the output
-no_input : (e : DisksError) → ¬ IsOfInput (disks_status e)
-no_input disks.RackFault = λ is. is
-no_input disks.OutOfMemory = λ is. is
-no_input disks.Exists = λ is. is
-no_input disks.NoDisks = λ is. is
-no_input disks.WrongDims = λ is. is
-
 no_slate : (e : DisksError) → ¬ IsOfSlate (disks_status e)
 no_slate disks.RackFault = λ is. is
 no_slate disks.OutOfMemory = λ is. is
 no_slate disks.Exists = λ is. is
 no_slate disks.NoDisks = λ is. is
 no_slate disks.WrongDims = λ is. is
-
-no_sink : (e : DisksError) → disks_status e ≢ SinkFault
-no_sink disks.RackFault = λ is. absurd (cc)
-no_sink disks.OutOfMemory = λ is. absurd (cc)
-no_sink disks.Exists = λ is. absurd (cc)
-no_sink disks.NoDisks = λ is. absurd (cc)
-no_sink disks.WrongDims = λ is. absurd (cc)
-
-not_done : (e : DisksError) → disks_status e ≢ Done
-not_done disks.RackFault = λ is. absurd (cc)
-not_done disks.OutOfMemory = λ is. absurd (cc)
-not_done disks.Exists = λ is. absurd (cc)
-not_done disks.NoDisks = λ is. absurd (cc)
-not_done disks.WrongDims = λ is. absurd (cc)
 
 case_stands : (t : Tells) (verb : Verb) (task : Task) (old : Devices) → Attaches verb → case_of verb t task old
     → IsTrue t.stands × (old.rack.stands ≡ Some (dims_of task.shape))
@@ -148,7 +127,7 @@ leaves_attach t Carry task d old new e well attaches from = absurd attaches
 leaves_attach t Drill task d old new e well attaches from = absurd attaches
 leaves_attach t Load task d old new e well attaches from = record {
   opened = λ told input sound. opens_same task.shape d.input.left old new from.disks sound;
-  refused = λ told of. absurd (no_input e of);
+  refused = λ told of. absurd (disks_no_input e of);
   unread = λ of. refl;
   same = λ of. from.disks;
   moves = MovesFew-same t.stands t.contents _ old new well from.calls.moves;
@@ -164,7 +143,7 @@ leaves_attach t Run task d old new e well attaches from =
       session = inl none;
       before = λ of. none;
       refused = λ of. absurd (no_slate e of);
-      cut = λ is. absurd (no_sink e is);
+      cut = λ is. absurd (disks_no_sink e is);
       unwritten = inr (inr refl);
       input = refl;
     }
@@ -172,7 +151,7 @@ leaves_attach t Status task d old new e well attaches from = record {
   looks = record { contents = from.disks.contents; units = KeepsUnits-same _ old new from.disks };
   same = SameInput-same _ old new from.disks;
   moves = from.calls.moves;
-  cut = λ is. absurd (no_sink e is);
+  cut = λ is. absurd (disks_no_sink e is);
   unwritten = inr (inr refl);
   input = refl;
 }
@@ -183,7 +162,7 @@ leaves_attach t Dump task d old new e well attaches from = record {
   written = inl refl;
   unwritten = λ of. refl;
   still = λ of. from.calls.moves;
-  cut = λ is. absurd (no_sink e is);
+  cut = λ is. absurd (disks_no_sink e is);
   input = refl;
 }
 leaves_attach t Drop task d old new e well attaches from = record {
@@ -200,7 +179,7 @@ leaves_attach t Detect task d old new e well attaches from = record {
   same = SameInput-same _ old new from.disks;
   moves = MovesFew-same t.stands t.contents _ old new well from.calls.moves;
   still = λ of. from.calls.moves;
-  cut = λ is. absurd (no_sink e is);
+  cut = λ is. absurd (disks_no_sink e is);
   unwritten = inr (inr refl);
   input = refl;
 }
@@ -214,7 +193,7 @@ pub not_attached : (t : Tells) (verb : Verb) (task : Task) (d : Devices) (old ne
 not_attached t verb task d old new e well attaches why from none rose sure = record {
   may = may_attach t.stands (dims_of task.shape) old verb e attaches why;
   cause = cause_attach t verb task d old new e attaches why rose;
-  done = λ is. absurd (not_done e is);
+  done = λ is. absurd (disks_not_done e is);
   leaves = leaves_attach t verb task d old new e well attaches from;
   each = record {
     sound = λ told sound. sound_kept old new from.disks sound;

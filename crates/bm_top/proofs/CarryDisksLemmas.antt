@@ -21,6 +21,7 @@ use Rattle.bm_top.proofs.ExitLemmas.{CallsGrow-same, MovesFew-same, IsRead-none,
 use Rattle.bm_top.proofs.CarryWholeLemmas.{new_closed, whole_not_loaded}
 use Rattle.bm_top.proofs.NewLemmas.{sound_new}
 use Rattle.bm_top.proofs.SameDisksLemmas.{sound_kept, calls_kept}
+use Rattle.bm_top.proofs.StepAnswerLemmas.{disks_not_done, disks_no_sink, disks_no_input}
 
 same_or_new : (t : Tells) (task : Task) (old new : RackView) (e : DisksError) → DisksRefusal t.stands t.contents
     (dims_of task.shape) old new e
@@ -39,16 +40,16 @@ pub carry_not_made : (t : Tells) (task : Task) (d : Devices) (old new : RackView
 carry_not_made t task d old new e well why none counts keeps rose sure = record {
   may = may e;
   cause = cause e why rose;
-  done = λ is. absurd (not_done e is);
+  done = λ is. absurd (disks_not_done e is);
   leaves = record {
     front = λ told. AppendsFront-none d.out.taken _;
     unwritten = λ of. refl;
     unread = λ of. refl;
     written = λ told. inl refl;
-    whole = λ told is. absurd (no_sink e is);
-    refused = λ told of. absurd (no_input e of);
-    made = λ told of. absurd (no_input e of);
-    cut = λ told is. absurd (no_sink e is);
+    whole = λ told is. absurd (disks_no_sink e is);
+    refused = λ told of. absurd (disks_no_input e of);
+    made = λ told of. absurd (disks_no_input e of);
+    cut = λ told is. absurd (disks_no_sink e is);
     opened = λ told input none. whole_not_loaded task.shape d.input.left t.stands t.contents (dims_of task.shape) old new told.1
         (same_or_new t task old new e why) none;
     stood = ⊎_elim (λ (same : SameDisks old new). inl (record { disks = same; calls = calls_kept _ _ old new well counts }))
@@ -86,27 +87,6 @@ carry_not_made t task d old new e well why none counts keeps rose sure = record 
     may disks.Exists = tt
     may disks.NoDisks = tt
     may disks.WrongDims = tt
-
-    not_done : (e : DisksError) → disks_status e ≢ Done
-    not_done disks.RackFault is = absurd (cc)
-    not_done disks.OutOfMemory is = absurd (cc)
-    not_done disks.Exists is = absurd (cc)
-    not_done disks.NoDisks is = absurd (cc)
-    not_done disks.WrongDims is = absurd (cc)
-
-    no_sink : (e : DisksError) → disks_status e ≢ SinkFault
-    no_sink disks.RackFault is = absurd (cc)
-    no_sink disks.OutOfMemory is = absurd (cc)
-    no_sink disks.Exists is = absurd (cc)
-    no_sink disks.NoDisks is = absurd (cc)
-    no_sink disks.WrongDims is = absurd (cc)
-
-    no_input : (e : DisksError) → ¬ IsOfInput (disks_status e)
-    no_input disks.RackFault is = is
-    no_input disks.OutOfMemory is = is
-    no_input disks.Exists is = is
-    no_input disks.NoDisks is = is
-    no_input disks.WrongDims is = is
 
     cause : (e : DisksError) → DisksRefusal t.stands t.contents (dims_of task.shape) old new e → (e ≡ disks.RackFault
         → Rose old.faults new.faults)

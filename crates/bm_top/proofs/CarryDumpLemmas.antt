@@ -20,6 +20,7 @@ use Rattle.bm_rack.specs.Sink.{AppendsFront}
 use Rattle.bm_rack.proofs.FrameLemmas.{Keeps-trans, HasCause-later}
 use Rattle.bm_control.specs.Consistent.{input_of}
 use Rattle.bm_job.specs.Runs.{RunDone, IsReportOf, load_rows, loads_before}
+use Rattle.bm_job.proofs.HeldLemmas.{has_bits}
 use Rattle.bm_disks.specs.Dumping.{area_bytes}
 use Rattle.bm_top.specs.Causes.{CauseOf, HasJob}
 use Rattle.bm_top.specs.Exits.{MadeDisks}
@@ -111,10 +112,6 @@ dumped t task d old mid mid' r passes fits loaded ran told job =
     ∙ bytes_of-same (2 ^ s.n) _ _ (λ x below. done.records x below
     ∙ meaning-same s.n task.job (input_of mid.contents s) (record_in s old.input.left) (has_bits s task.job fits.job)
     (loaded.records told.1 told.0.1) x below)
-  where
-    has_bits : (s : Shape) (job : Job) → JobFits s job → HasBits s.n job
-    has_bits s (Permute f) is = is.0
-    has_bits s Walsh is = tt
 
 -- the parallel transfers of the whole
 all_moves : (t : Tells) (task : Task) (old d : Devices) (mid mid' new : RackView) (r : RunReport)

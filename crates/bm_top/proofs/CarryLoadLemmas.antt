@@ -33,6 +33,7 @@ use Rattle.bm_top.specs.declared.status.Status.TheVariants.{Done, OutOfMemory, R
 use Rattle.bm_top.proofs.CarryWholeLemmas.{whole_in_load}
 use Rattle.bm_top.proofs.ExitLemmas.{CallsGrow-same, CallsGrow-trans, AppendsFront-none}
 use Rattle.bm_top.proofs.FaultLemmas.{cause_later}
+use Rattle.bm_top.proofs.StepAnswerLemmas.{load_not_done, load_no_sink}
 
 -- what the load of records says
 pub record LoadedBy (t : Tells) (task : Task) (old new : Devices) (result : Result (Unit {0}) LoadError) : Type 0 where
@@ -94,21 +95,21 @@ pub carry_not_loaded : (t : Tells) (task : Task) (old mid new : Devices) (e : Lo
 carry_not_loaded t task old mid new e made by = record {
   may = may e;
   cause = cause e by;
-  done = λ is. absurd (not_done e is);
+  done = λ is. absurd (load_not_done e is);
   leaves = record {
     front = λ told. subst (λ (v : SinkView). AppendsFront old.out.taken v.taken (carried task old.input.left)) (sym out)
         (AppendsFront-none old.out.taken _);
     unwritten = λ of. out;
     unread = λ of. absurd (late e of);
     written = λ told. inl out;
-    whole = λ told is. absurd (no_sink e is);
+    whole = λ told is. absurd (load_no_sink e is);
     refused = λ told of. record {
       load_gate = λ dims image stands i. (by.closed told.1 (refusal e of) dims image stands i).0;
       job_gate = λ dims image stands i. (by.closed told.1 (refusal e of) dims image stands i).1;
       sound = by.mended told.0 told.1 (not_failed e of);
     };
     made = λ told of. by.call.frame.stands ∙ made.stands told;
-    cut = λ told is. absurd (no_sink e is);
+    cut = λ told is. absurd (load_no_sink e is);
     opened = λ told input none. subst (λ (bytes : List ℕ). InEveryImage (IsWhole task.shape bytes) new.rack) left
         (whole_in_load task.shape mid.input.left mid.rack new.rack (by.opened input told.0 told.1 (made.sound told))
         (made.load_gate told.1));
@@ -153,18 +154,6 @@ carry_not_loaded t task old mid new e made by = record {
     may load.DataFault = tt
     may (load.DataShort got) = tt
     may load.DataLong = tt
-
-    not_done : (e : LoadError) → load_status e ≢ Done
-    not_done load.Failed is = absurd (cc)
-    not_done load.DataFault is = absurd (cc)
-    not_done (load.DataShort got) is = absurd (cc)
-    not_done load.DataLong is = absurd (cc)
-
-    no_sink : (e : LoadError) → load_status e ≢ SinkFault
-    no_sink load.Failed is = absurd (cc)
-    no_sink load.DataFault is = absurd (cc)
-    no_sink (load.DataShort got) is = absurd (cc)
-    no_sink load.DataLong is = absurd (cc)
 
     no_exists : (e : LoadError) → load_status e ≢ Exists
     no_exists load.Failed is = absurd (cc)

@@ -22,6 +22,7 @@ use Rattle.bm_top.proofs.CarryWholeLemmas.{whole_loaded}
 use Rattle.bm_top.proofs.ExitLemmas.{CallsGrow-trans, AppendsFront-none}
 use Rattle.bm_top.proofs.RanLemmas.{Ran, ran_grow}
 use Rattle.bm_top.proofs.FaultLemmas.{cause_later}
+use Rattle.bm_top.proofs.StepAnswerLemmas.{run_not_done, run_no_sink, run_late, run_no_input}
 
 -- what was just loaded can be run
 runnable : (t : Tells) (task : Task) (old mid : Devices) → IsLoadedFrom t task old mid → TellsRack t
@@ -38,17 +39,17 @@ pub carry_not_run : (t : Tells) (task : Task) (d old : Devices) (mid new : RackV
 carry_not_run t task d old mid new e loaded ran = record {
   may = may e;
   cause = cause e ran;
-  done = λ is. absurd (not_done e is);
+  done = λ is. absurd (run_not_done e is);
   leaves = record {
     front = λ told. subst (λ (v : SinkView). AppendsFront old.out.taken v.taken (carried task old.input.left)) (sym loaded.out)
         (AppendsFront-none old.out.taken _);
     unwritten = λ of. loaded.out;
-    unread = λ of. absurd (late e of);
+    unread = λ of. absurd (run_late e of);
     written = λ told. inl loaded.out;
-    whole = λ told is. absurd (no_sink e is);
-    refused = λ told of. absurd (no_input e of);
-    made = λ told of. absurd (no_input e of);
-    cut = λ told is. absurd (no_sink e is);
+    whole = λ told is. absurd (run_no_sink e is);
+    refused = λ told of. absurd (run_no_input e of);
+    made = λ told of. absurd (run_no_input e of);
+    cut = λ told is. absurd (run_no_sink e is);
     opened = λ told input none. whole_loaded task.shape old.input.left mid new loaded.clean ran.input (loaded.size input)
         (loaded.records input told.1);
     stood = inr loaded.stood;
@@ -64,7 +65,7 @@ carry_not_run t task d old mid new e loaded ran = record {
     stands = λ told. inr (record { makes = tt; stood = loaded.stood told; stands = ran.call.frame.stands ∙ loaded.stands told });
     keeps = Keeps-trans old.rack mid new loaded.keeps ran.call.keeps;
     fault = cause_later _ _ old.rack mid new (rack_fault e) loaded.keeps ran.call.cause;
-    calls = λ of. absurd (late e of);
+    calls = λ of. absurd (run_late e of);
     grow = CallsGrow-trans old.rack mid new loaded.grow (ran_grow t task (plan_of task) mid new (Err e) ran);
     unattached = λ is. absurd (no_memory e is);
     few = loaded.few;
@@ -86,20 +87,6 @@ carry_not_run t task d old mid new e loaded ran = record {
     may run.OtherJob = tt
     may (run.BadPage page) = tt
 
-    not_done : (e : RunError) → run_status e ≢ Done
-    not_done run.Failed is = absurd (cc)
-    not_done run.NotLoaded is = absurd (cc)
-    not_done run.OtherShape is = absurd (cc)
-    not_done run.OtherJob is = absurd (cc)
-    not_done (run.BadPage page) is = absurd (cc)
-
-    no_sink : (e : RunError) → run_status e ≢ SinkFault
-    no_sink run.Failed is = absurd (cc)
-    no_sink run.NotLoaded is = absurd (cc)
-    no_sink run.OtherShape is = absurd (cc)
-    no_sink run.OtherJob is = absurd (cc)
-    no_sink (run.BadPage page) is = absurd (cc)
-
     no_exists : (e : RunError) → run_status e ≢ Exists
     no_exists run.Failed is = absurd (cc)
     no_exists run.NotLoaded is = absurd (cc)
@@ -113,20 +100,6 @@ carry_not_run t task d old mid new e loaded ran = record {
     no_memory run.OtherShape is = absurd (cc)
     no_memory run.OtherJob is = absurd (cc)
     no_memory (run.BadPage page) is = absurd (cc)
-
-    late : (e : RunError) → ¬ IsBeforeDisks (run_status e)
-    late run.Failed is = is
-    late run.NotLoaded is = is
-    late run.OtherShape is = is
-    late run.OtherJob is = is
-    late (run.BadPage page) is = is
-
-    no_input : (e : RunError) → ¬ IsOfInput (run_status e)
-    no_input run.Failed is = is
-    no_input run.NotLoaded is = is
-    no_input run.OtherShape is = is
-    no_input run.OtherJob is = is
-    no_input (run.BadPage page) is = is
 
     rack_fault : (e : RunError) → run_status e ≡ RackFault → IsErrOf {T = RunReport} {E = RunError} (Err e) run.Failed
     rack_fault run.Failed is = refl

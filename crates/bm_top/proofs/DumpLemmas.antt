@@ -30,7 +30,7 @@ use Rattle.bm_top.specs.Causes.{CauseOf, HasDisks, HasJob}
 use Rattle.bm_top.specs.DiskStatus.{dump_status, open_status}
 use Rattle.bm_top.specs.Exits.{AttachedFrom, KeepsUnits}
 use Rattle.bm_top.specs.Moment.{Devices, SinkView, Tells, TellsRack}
-use Rattle.bm_top.specs.Status.{IsBeforeDisks, IsOfState}
+use Rattle.bm_top.specs.Status.{IsBeforeDisks, IsOfInput, IsOfState}
 use Rattle.bm_top.specs.TopCall.{TaskCall, NoFaults, IsDoneUnlessMemory}
 use Rattle.bm_top.specs.commands.Dump.{DumpMay, DumpBegun, output_of, made_of}
 use Rattle.bm_top.specs.commands.Status.{OnlyLooks}
@@ -138,6 +138,12 @@ pub record AreaDumped (t : Tells) (s : Shape) (area : Area) (old : SinkView) (lo
 abbrev pub dump_answer : Result (Unit {0}) DumpError → Status
 dump_answer (Ok x) = Done
 dump_answer (Err e) = dump_status e
+
+-- which is none of the input
+pub dump_no_input : (x : Result (Unit {0}) DumpError) → ¬ IsOfInput (dump_answer x)
+dump_no_input (Ok x) of = of
+dump_no_input (Err dump.Failed) of = of
+dump_no_input (Err dump.SinkFault) of = of
 
 dumped_may : (r : Result (Unit {0}) DumpError) → DumpMay (dump_answer r)
 dumped_may (Ok x) = tt

@@ -7,6 +7,7 @@ pub mod SameDisksLemmas
 pub mod MemoryLemmas
 pub mod NewLemmas
 pub mod PlanLemmas
+pub mod StepAnswerLemmas
 pub mod AttachLemmas
 pub mod BeforeLemmas
 pub mod RanLemmas

@@ -40,6 +40,8 @@ use Rattle.bm_top.proofs.ExitLemmas.{IsRead-none}
 use Rattle.bm_top.proofs.SameDisksLemmas.{sound_kept}
 use Rattle.bm_top.proofs.RanLemmas.{Ran, ran_grow, few_before, jobs_before, open_before, every_image, failed_before, calls_before}
 use Rattle.bm_top.proofs.RanLemmas.{done_before}
+use Rattle.bm_top.proofs.StepAnswerLemmas.{run_late, run_no_sink, run_not_done}
+use Rattle.bm_top.proofs.StatusLemmas.{no_fault}
 
 -- the job is done
 has_run : (t : Tells) (task : Task) (before mid new : RackView) (r : RunReport) → TaskFits task → AttachedFrom before mid
@@ -84,14 +86,6 @@ fault_of : (mid new : RackView) (e : RunError) → HasCause (IsErrOf {T = RunRep
     (e ≡ run.Failed) mid new
 fault_of mid new e x = record { rose = λ is. x.rose (ap Err is); sure = λ steady going is. x.sure steady going (ap Err is) }
 
--- no refusal of a run comes before its disks
-not_before : (e : RunError) → ¬ IsBeforeDisks (run_status e)
-not_before run.Failed is = is
-not_before run.NotLoaded is = is
-not_before run.OtherShape is = is
-not_before run.OtherJob is = is
-not_before (run.BadPage page) is = is
-
 -- the job is not done, and the output is as before
 refused_leaves : (t : Tells) (task : Task) (d : Devices) (before mid new : RackView) (e : RunError) → AttachedFrom before mid
     → Ran t task (plan_of task) mid new (Err e) → RunLeaves t task (record d { rack = before }) (run_status e) (record d { rack = new })
@@ -102,9 +96,9 @@ refused_leaves t task d before mid new e from ran = record {
   calls = few_before _ _ before mid new from.calls.pages from.calls.syncs ran.few;
   session = inr (session t task (record d { rack = before }) (record d { rack = new }) mid (run_status e) (Err e) from ran (λ is. ap Err
       (rack_fault e is)));
-  before = λ of. absurd (not_before e of);
+  before = λ of. absurd (run_late e of);
   refused = λ of. contents_before before mid new from (of_slate e of ran.kept);
-  cut = λ is. absurd (not_sink e is);
+  cut = λ is. absurd (run_no_sink e is);
   unwritten = inr (inr refl);
   input = refl;
 }
@@ -115,13 +109,6 @@ refused_leaves t task d before mid new e from ran = record {
     rack_fault run.OtherShape is = absurd (cc)
     rack_fault run.OtherJob is = absurd (cc)
     rack_fault (run.BadPage page) is = absurd (cc)
-
-    not_sink : (e : RunError) → run_status e ≢ SinkFault
-    not_sink run.Failed is = absurd (cc)
-    not_sink run.NotLoaded is = absurd (cc)
-    not_sink run.OtherShape is = absurd (cc)
-    not_sink run.OtherJob is = absurd (cc)
-    not_sink (run.BadPage page) is = absurd (cc)
 
     of_slate : (e : RunError) → IsOfSlate (run_status e) → RefusalKeeps mid new e → SameContents mid new
     of_slate run.Failed of kept = absurd of
@@ -187,11 +174,11 @@ pub run_refused : (t : Tells) (task : Task) (d : Devices) (before mid new : Rack
 run_refused t task d before mid new e from well attached ran = record {
   may = may e;
   cause = refused_cause t task d before mid new e from well attached ran;
-  done = λ is. absurd (not_done e is);
+  done = λ is. absurd (run_not_done e is);
   leaves = refused_leaves t task d before mid new e from ran;
   each = each_attached t Run task (record d { rack = before }) (record d { rack = new }) mid (run_status e) from ran.call.frame.stands
       ran.call.keeps (ran_grow t task (plan_of task) mid new (Err e) ran) (fault e (fault_of mid new e ran.call.cause))
-      (λ told. ran.sound told.0 told.1) (not_before e)
+      (λ told. ran.sound told.0 told.1) (run_late e)
       (λ told. IsRead-none _ d.input.left)
       (omega arith) (omega arith);
   complete = refused_complete t task d before mid new e from ran;
@@ -203,13 +190,6 @@ run_refused t task d before mid new e from well attached ran = record {
     may run.OtherShape = tt
     may run.OtherJob = tt
     may (run.BadPage page) = tt
-
-    not_done : (e : RunError) → run_status e ≢ Done
-    not_done run.Failed is = absurd (cc)
-    not_done run.NotLoaded is = absurd (cc)
-    not_done run.OtherShape is = absurd (cc)
-    not_done run.OtherJob is = absurd (cc)
-    not_done (run.BadPage page) is = absurd (cc)
 
     fault : (e : RunError) → HasCause (e ≡ run.Failed) mid new → HasCause (run_status e ≡ RackFault) mid new
     fault run.Failed x = record { rose = λ is. x.rose refl; sure = λ steady going is. x.sure steady going refl }
@@ -238,10 +218,6 @@ done_leaves t task old new mid answer r from ran calm late fine input cut writte
   input = input;
 }
 
--- the rack's answer was good
-calm_cause : (mid new : RackView) (answer : Status) → answer ≢ RackFault → HasCause (answer ≡ RackFault) mid new
-calm_cause mid new answer calm = record { rose = λ is. absurd (calm is); sure = λ steady going. calm }
-
 pub run_done : (t : Tells) (task : Task) (d : Devices) (before mid new : RackView) (out out' : SinkView) (r : RunReport) → TaskFits task
     → AttachedFrom before mid → IsWellFormed t.stands t.contents mid → mid.attached ≡ Some (dims_of task.shape)
     → Ran t task (plan_of task) mid new (Ok r)
@@ -256,7 +232,7 @@ run_done t task d before mid new out out' r fits from well attached ran text low
       (λ e. (cc)) (λ is. is) (λ is. is) refl (λ e. absurd (cc)) (inl refl);
   each = each_attached t Run task (record d { out = out; rack = before })
       (record d { out = out'; rack = new }) mid Done from ran.call.frame.stands
-      ran.call.keeps (ran_grow t task (plan_of task) mid new (Ok r) ran) (calm_cause mid new Done (λ e. (cc)))
+      ran.call.keeps (ran_grow t task (plan_of task) mid new (Ok r) ran) (no_fault Done mid new (λ e. (cc)))
       (λ told. ran.sound told.0 told.1) (λ of. of)
       (λ told. IsRead-none _ d.input.left)
       (omega arith) low;
@@ -279,7 +255,7 @@ run_cut t task d before mid new out out' r fits from well attached ran text rose
       (inl refl));
   each = each_attached t Run task (record d { out = out; rack = before })
       (record d { out = out'; rack = new }) mid SinkFault from ran.call.frame.stands
-      ran.call.keeps (ran_grow t task (plan_of task) mid new (Ok r) ran) (calm_cause mid new SinkFault (λ e. (cc)))
+      ran.call.keeps (ran_grow t task (plan_of task) mid new (Ok r) ran) (no_fault SinkFault mid new (λ e. (cc)))
       (λ told. ran.sound told.0 told.1) (λ of. of)
       (λ told. IsRead-none _ d.input.left)
       (omega arith) low;

@@ -18,6 +18,7 @@ use Rattle.bm_disks.specs.declared.job_opening.OpenError.{OpenError}
 use Rattle.bm_disks.specs.declared.job_opening.OpenError.TheVariants as opening
 use Rattle.bm_disks.specs.JobOpening.{OpenAnswer}
 use Rattle.bm_job.specs.Begins.{IsLoadedState}
+use Rattle.bm_job.proofs.EndLemmas.{loaded_shape}
 use Rattle.bm_top.specs.Causes.{HasLoadedShape}
 use Rattle.bm_top.specs.DiskStatus.{open_status}
 use Rattle.bm_top.specs.Exits.{AttachedFrom}
@@ -61,14 +62,6 @@ not_loaded (Err opening.OtherShape) error is =
           tt;
     }
 
--- the shape that is loaded, where the load gate is open
-loaded_shape : (v : Contents) (state : SlateState) (t s : Shape) → StateAnswer v (Ok state) → IsLoadedState t state → HasLoadBody s v
-    → t ≡ s
-loaded_shape v Closed t s answer is body = absurd is
-loaded_shape v (Loaded u) t s answer is body = sym is ∙ load_unique u s (page_at v 0) answer.1 body
-loaded_shape v (Working u other passes done every part slot) t s answer is body =
-    sym is ∙ load_unique u s (page_at v 0) answer.0.load_body body
-
 -- records that are loaded are found, where the rack did not fail
 found : (t : Tells) (task : Task) (before mid new : RackView) (error : OpenError) → AttachedFrom before mid
     → JobLooked t task mid (Err error) new → DetectMay (open_status error) → TellsRack t → IsSound before
@@ -82,7 +75,7 @@ found t task before mid new opening.NotLoaded from j may told sound gate body ca
     absurd (j.answer told.1 (subst HasOpenLoad (sym from.disks.contents) gate))
 found t task before mid new opening.OtherShape from j may told sound gate body calm =
     let answer = j.answer told.1 in
-    absurd (answer.2.2 (loaded_shape mid.contents answer.0 answer.2.0 task.shape answer.1 answer.2.1
+    absurd (answer.2.2 (loaded_shape task.shape answer.2.0 mid.contents answer.0 answer.1 answer.2.1
     (subst (HasLoadBody task.shape) (sym from.disks.contents) body)))
 found t task before mid new opening.NoJob from j may told sound gate body calm = absurd may
 found t task before mid new opening.OtherJob from j may told sound gate body calm = absurd may

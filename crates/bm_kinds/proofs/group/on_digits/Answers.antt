@@ -1,11 +1,12 @@
 use Rattle.std.proofs.Common.{slice_index, arith}
 use Rattle.bm_base.specs.Butterfly.{record_of}
-use Rattle.bm_kinds.proofs.OverLemmas.{kernel_digits-none, kernel_digits-more}
+use Rattle.bm_kinds.proofs.OverLemmas.{kernel_digits-more}
 use Rattle.bm_kinds.proofs.group.on_digits.Goals as goal
+use Rattle.bm_butter.proofs.KernelLemmas.{kernel_digits-start}
 
 pub loop-j-init : goal.loop-j-init
 loop-j-init g c = record {
-  done = λ t l. kernel_digits-none (g.K.Kernel.meaning c.args.kernel.now) (λ k. record_of (slice_index c.args.from.now k)) t;
+  done = λ t l. sym (kernel_digits-start (g.K.Kernel.meaning c.args.kernel.now) (λ k. record_of (slice_index c.args.from.now k)) t);
 }
 
 pub loop-j-preserved : goal.loop-j-preserved
