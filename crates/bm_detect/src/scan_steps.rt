@@ -3,7 +3,6 @@
 ghost use Rattle.std.specs.Prelude.{◌≡◌, ◌≢◌, ℕ, ◌+◌, ◌*◌, ◌^◌, ◌<◌, ◌≤◌, IfOk, length, bit_xor};
 ghost use Rattle.std.specs.Fork.{slice_chunk};
 ghost use Rattle.bm_base.specs.Butterfly.{number_in};
-ghost use Rattle.bm_gf2.specs.Matrix.{column};
 ghost use Rattle.bm_detect.specs.Scan.{IsScan, Knows, Scanned};
 
 use crate::detect_error::DetectError;
@@ -27,19 +26,6 @@ pub fn start_scan(n: u8) -> Scan
         bits: 0,
         first: None,
     }
-}
-
-// The matrix with another column j.
-fn with_column(a: Matrix, j: u8, v: u64) -> Matrix
-    requires column { j < a.n }
-    requires below { v < 2 ^ a.n }
-    ensures size { result.n ≡ a.n }
-    ensures changed { column result j ≡ v }
-    ensures others { (i : ℕ) → i ≢ j → column result i ≡ column a i }
-{
-    let mut cols = a.cols;
-    cols[usize::from(j)] = v;
-    Matrix { n: a.n, cols }
 }
 
 // The scan after the number y of address 0.
@@ -70,7 +56,7 @@ fn take_unit(scan: Scan, n: u8, y: u64) -> Scan
 {
     Scan {
         map: Affine {
-            a: with_column(scan.map.a, scan.bits, y ^ scan.map.c),
+            a: scan.map.a.with_column(scan.bits, y ^ scan.map.c),
             c: scan.map.c,
         },
         bits: scan.bits + 1,

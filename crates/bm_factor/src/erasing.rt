@@ -6,7 +6,6 @@ ghost use Rattle.bm_forms.specs.Mld.{IsMld};
 ghost use Rattle.bm_factor.specs.Columns.{HasTrailingBlock, IsOwnInverse};
 ghost use Rattle.bm_factor.specs.Eraser.{IsEraser};
 
-use crate::column_change::with_column;
 use bm_base::Shape;
 use bm_gf2::Matrix;
 use bm_rank::Echelon;
@@ -25,7 +24,7 @@ pub fn eraser(shape: &Shape, a: &Matrix) -> Matrix
     let mut e = Matrix::identity(a.n);
     for j in shape.b()..m {
         let set = found.combination(a.cols[usize::from(j)] >> m).unwrap();
-        e = with_column(&e, j, (set << m) ^ (1 << j));
+        e = e.with_column(j, (set << m) ^ (1 << j));
     }
     e
 }

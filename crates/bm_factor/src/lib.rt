@@ -2,7 +2,6 @@
 
 #![tactic(auto)]
 
-mod column_change;
 mod erasing;
 mod error;
 mod factoring;

@@ -5,7 +5,6 @@ ghost use Rattle.bm_gf2.specs.declared.matrix.Matrix.{Matrix as AMatrix};
 ghost use Rattle.bm_gf2.specs.Matrix.{IsNonsingular};
 ghost use Rattle.bm_factor.specs.Reducer.{IsReducer};
 
-use crate::column_change::with_column;
 use bm_base::Shape;
 use bm_gf2::{Matrix, no_columns, sum_of_columns};
 use bm_rank::Echelon;
@@ -44,7 +43,7 @@ fn independent_tops(a: &Matrix, m: u8) -> Matrix
             count += 1;
         } else {
             let set = found.combination(top).unwrap();
-            r = with_column(&r, j, sum_of_columns(count, &pivots, set) ^ (1 << j));
+            r = r.with_column(j, sum_of_columns(count, &pivots, set) ^ (1 << j));
         }
     }
     r

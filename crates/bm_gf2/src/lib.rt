@@ -3,6 +3,7 @@
 #![tactic(auto)]
 
 mod affine;
+mod column_change;
 mod matrix;
 mod row_map;
 mod spread;
