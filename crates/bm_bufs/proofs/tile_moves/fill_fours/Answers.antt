@@ -8,6 +8,7 @@ use Rattle.bm_gf2.specs.Matrix.{column}
 use Rattle.bm_gf2.specs.Vector.{xor_sum}
 use Rattle.bm_gf2.proofs.VectorLemmas.{xor_sum-zero}
 use Rattle.bm_bufs.specs.declared.tile_map.TileMap.{TileMap}
+use Rattle.bm_bufs.proofs.FourLemmas.{row_fits}
 use Rattle.bm_bufs.proofs.RunLemmas.{run_count}
 use Rattle.bm_bufs.proofs.StepLemmas.{has_entry, next_affine}
 use Rattle.bm_bufs.proofs.TileLemmas.{low_below, low_column, four_turn, four_more}
@@ -24,12 +25,6 @@ from_below m first j from short is = subst (λ x. x < 2 ^ m.tile) (sym is)
 column_below : (m : TileMap) (i : ℕ) → 2 ≤ m.low → i < 2 → column m.back i < 2 ^ m.tile
 column_below m i some small =
     low_column m.back m.back_plus m.tile i m.tiles (omega (arith, m.low_in, m.tile_in, m.back_size)) (omega (arith, m.low_in))
-
--- the row has a record for a number of the tile
-in_row : (from size width all : ℕ) → from < size → size * width ≤ all → (from + 1) * width ≤ all
-in_row from size width all short room =
-    let fits : (from + 1) * width ≤ size * width = mul-le-mul_right width (let e : from + 1 ≤ size = omega arith in e) in
-    omega arith
 
 pub loop-j-init : goal.loop-j-init
 loop-j-init g c =
@@ -74,28 +69,28 @@ copy_four-requires-clause-load g c =
 pub copy_four-requires-clause-a : goal.copy_four-requires-clause-a
 copy_four-requires-clause-a g c =
     let m = c.args.steps.now.map in
-    in_row c.loop-j.from (2 ^ m.tile) g.row.W (length c.args.row.now)
+    row_fits c.loop-j.from (2 ^ m.tile) g.row.W (length c.args.row.now)
     (from_below m c.args.first (c.loop-j.j * 2 ^ 2) c.loop-j.from c.requires.first c.loop-j.invariant.from) c.requires.row
 
 pub copy_four-requires-clause-b : goal.copy_four-requires-clause-b
 copy_four-requires-clause-b g c =
     let m = c.args.steps.now.map in
     let from = from_below m c.args.first (c.loop-j.j * 2 ^ 2) c.loop-j.from c.requires.first c.loop-j.invariant.from in
-    in_row (bit_xor c.loop-j.from (column m.back 0)) (2 ^ m.tile) g.row.W (length c.args.row.now)
+    row_fits (bit_xor c.loop-j.from (column m.back 0)) (2 ^ m.tile) g.row.W (length c.args.row.now)
     (xor_lt m.tile c.loop-j.from (column m.back 0) from (column_below m 0 c.requires.low (omega arith))) c.requires.row
 
 pub copy_four-requires-clause-c : goal.copy_four-requires-clause-c
 copy_four-requires-clause-c g c =
     let m = c.args.steps.now.map in
     let from = from_below m c.args.first (c.loop-j.j * 2 ^ 2) c.loop-j.from c.requires.first c.loop-j.invariant.from in
-    in_row (bit_xor c.loop-j.from (column m.back 1)) (2 ^ m.tile) g.row.W (length c.args.row.now)
+    row_fits (bit_xor c.loop-j.from (column m.back 1)) (2 ^ m.tile) g.row.W (length c.args.row.now)
     (xor_lt m.tile c.loop-j.from (column m.back 1) from (column_below m 1 c.requires.low (omega arith))) c.requires.row
 
 pub copy_four-requires-clause-d : goal.copy_four-requires-clause-d
 copy_four-requires-clause-d g c =
     let m = c.args.steps.now.map in
     let from = from_below m c.args.first (c.loop-j.j * 2 ^ 2) c.loop-j.from c.requires.first c.loop-j.invariant.from in
-    in_row (bit_xor (bit_xor c.loop-j.from (column m.back 0)) (column m.back 1)) (2 ^ m.tile) g.row.W (length c.args.row.now)
+    row_fits (bit_xor (bit_xor c.loop-j.from (column m.back 0)) (column m.back 1)) (2 ^ m.tile) g.row.W (length c.args.row.now)
     (xor_lt m.tile (bit_xor c.loop-j.from (column m.back 0)) (column m.back 1)
     (xor_lt m.tile c.loop-j.from (column m.back 0) from (column_below m 0 c.requires.low (omega arith)))
     (column_below m 1 c.requires.low (omega arith))) c.requires.row
