@@ -12,7 +12,7 @@ use Rattle.bm_butter.specs.Groups.{pick, AreTold, AreCorners, IsCorner, GroupsDo
 use Rattle.bm_butter.proofs.SpreadLemmas.{squeeze_two, squeeze_two-told, spread_two-lt, split_blocks, join_blocks}
 use Rattle.bm_butter.proofs.SpreadLemmas.{twice_as_many}
 use Rattle.bm_butter.proofs.FourLemmas.{by_four}
-use Rattle.bm_base.proofs.PowerLemmas.{two_halves}
+use Rattle.bm_base.proofs.PowerLemmas.{two_halves, same_exponent}
 
 -- the group of a place is told
 pub corner_group : (low high p q r s w t : ℕ) → low < high → AreCorners low high p q r s → t < 4
@@ -173,16 +173,6 @@ half_difference : (bit at_u at_v : ℕ) → AreHalves bit at_u at_v → (at_v �
 half_difference bit at_u at_v halves =
     ⊎_elim (λ (p : at_v ≡ 0). inl p) (λ (p : at_v ≢ 0). inr (omega (arith, halves.0, halves.1))) (cases_eq at_v 0)
 
--- powers of different numbers are apart
-pow_apart : (i o : ℕ) → i ≢ o → 2 ^ i ≢ 2 ^ o
-pow_apart i o differ e =
-    ⊎_elim
-    (λ (p : i < o). let more : 2 ^ (i + 1) ≤ 2 ^ o = pow_mono {i = i + 1} {j = o} (omega arith) in
-    absurd (omega (arith, two_halves i, pow_pos i)))
-    (λ (p : o ≤ i). let more : 2 ^ (o + 1) ≤ 2 ^ i = pow_mono {i = o + 1} {j = i} (omega arith) in
-    absurd (omega (arith, two_halves o, pow_pos o)))
-    (cases_lt i o)
-
 -- the corners of two bits
 pub AreCorners-halves : (i o a b c d : ℕ) → i ≢ o → AreHalves i a b → AreHalves o c d
     → AreCorners (min i o) (max i o) (a + c) (b + c) (a + d) (b + d)
@@ -190,7 +180,7 @@ unfolding pick
 AreCorners-halves i o a b c d differ inner outer =
     let some_i : 0 < 2 ^ i = pow_pos i in
     let some_o : 0 < 2 ^ o = pow_pos o in
-    let powers : 2 ^ i ≢ 2 ^ o = pow_apart i o differ in
+    let powers : 2 ^ i ≢ 2 ^ o = λ e. differ (same_exponent i o e) in
     record {
       apart = record {
         p_q = λ e. absurd (omega (arith, inner.0, inner.1));

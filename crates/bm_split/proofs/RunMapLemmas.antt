@@ -26,14 +26,6 @@ put_back v n low few l h =
     let most : 2 ^ n ≤ 18446744073709551616 = pow_mono {i = n} {j = 64} (omega arith) in
     (mod-eq_of_lt (omega arith), s)
 
--- a power of two that code shifts to
-pub one_shifted : (k : ℕ) → k ≤ 52 → 1 * 2 ^ k % 18446744073709551616 ≡ 2 ^ k
-one_shifted k l = one_shl k 64 (omega arith)
-
--- .. below another
-pub unit_in : (k n : ℕ) → k < n → n ≤ 52 → (1 * 2 ^ k % 18446744073709551616 ≡ 2 ^ k) × (2 ^ k < 2 ^ n)
-unit_in k n h l = (one_shifted k (omega arith), pow_below k n h)
-
 -- columns from low on have no low bits
 pub run_basis : (a : Matrix) (low : ℕ) (tops : List ℕ) → low < a.n → IsRunMap a low tops → HasRunBasis a low
 run_basis a low tops inside is = record {

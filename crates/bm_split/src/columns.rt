@@ -41,7 +41,7 @@ pub fn trailing_columns(a: &Matrix, low: u8) -> [u64; MOST_COLUMNS]
 }
 
 /// Columns 0 to low - 1 without their rows below `low`, and then all units of the other rows.
-#[tactic(auto, using(bm_base::proofs::PowerLemmas::cut_below, crate::proofs::RunMapLemmas::unit_in))]
+#[tactic(auto, using(bm_base::proofs::PowerLemmas::cut_below, bm_gf2::proofs::VectorLemmas::unit_below))]
 pub fn run_vectors(a: &Matrix, low: u8) -> [u64; MOST_COLUMNS]
     requires { low < a.now.n }
     ensures cut { (i : ℕ) → i < low → slice_index result i ≡ column a.now i / 2 ^ low }
