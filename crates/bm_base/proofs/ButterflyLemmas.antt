@@ -1,6 +1,6 @@
 -- Numbers in records, and butterflies.
 use Rattle.std.proofs.Common.{ℕ, zero, suc, ◌≡◌, ◌+◌, ◌-◌, ◌*◌, ◌/◌, ◌%◌, ◌^◌, ◌<◌, ◌≤◌, List, [], ◌∷◌, refl, sym, ap, ◌∙◌, subst, arith}
-use Rattle.std.proofs.Common.{⊎_elim}
+use Rattle.std.proofs.Common.{⊎_elim, zero-mul}
 use Rattle.std.proofs.lemmas.Bool.{cases_lt, cases_eq}
 use Rattle.std.proofs.lemmas.Nat.{pow_pos, shr_split, mod-pow-add, pow-add}
 use Rattle.std.proofs.lemmas.List.{append-nil}
@@ -20,11 +20,8 @@ same_cons p q = cc
 plus_assoc : (a b c : ℕ) → a + b + c ≡ a + (b + c)
 plus_assoc a b c = omega arith
 
-none_times : (w : ℕ) → 0 * w ≡ 0
-none_times w = omega arith
-
 first_block : (n t : ℕ) → 0 * 2 ^ n + t ≡ t
-first_block n t = let z = none_times (2 ^ n) in omega arith
+first_block n t = let z = zero-mul (2 ^ n) in omega arith
 
 -- a byte of the number cut to 64 bits
 byte_cut : (i v : ℕ) → i < 8 → byte_at i (v % 18446744073709551616) ≡ byte_at i v
@@ -107,7 +104,7 @@ set_below k r n h l z =
     let s : k / 2 ^ (r + 1) * 2 ^ (r + 1) + k % 2 ^ (r + 1) ≡ k = shr_split k (r + 1) in
     let w : k % 2 ^ (r + 1) ≡ bit_at k r * 2 ^ r + k % 2 ^ r = ap (λ (c : ℕ). k % 2 ^ c) (let e : r + 1 ≡ 1 + r = omega arith in e)
     ∙ mod-pow-add k 1 r in
-    let w0 : bit_at k r * 2 ^ r ≡ 0 = ap (λ (c : ℕ). c * 2 ^ r) z ∙ none_times (2 ^ r) in
+    let w0 : bit_at k r * 2 ^ r ≡ 0 = ap (λ (c : ℕ). c * 2 ^ r) z ∙ zero-mul (2 ^ r) in
     let low : k % 2 ^ r < 2 ^ r = mod-lt k (pow_pos r) in
     let two : 2 ^ (r + 1) ≡ 2 ^ r + 2 ^ r = ap (λ (c : ℕ). 2 ^ c) (let e : r + 1 ≡ suc r = omega arith in e) ∙ pow-suc 2 r
     ∙ (let e : 2 ^ r * 2 ≡ 2 ^ r + 2 ^ r = omega arith in e) in

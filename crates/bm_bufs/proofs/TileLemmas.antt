@@ -3,7 +3,7 @@ use Rattle.std.proofs.Common.{◌≡◌, ◌≢◌, ℕ, ◌+◌, ◌-◌, ◌*�
 use Rattle.std.proofs.Common.{◌⊎◌, List}
 use Rattle.std.specs.Fork.{slice_chunk}
 use Rattle.std.specs.Int.Bits.{xor_shifted, xor_mod, xor_shr, xor_assoc, xor_zero_l, xor_zero_r}
-use Rattle.std.proofs.lemmas.Nat.{pow_pos, pow_below, pow-add, xor_lt, div-mul-add, one_shl, shl_whole}
+use Rattle.std.proofs.lemmas.Nat.{pow_pos, pow_below, pow-add, xor_lt, div-mul-add, one_shl, shl_whole, shr_split}
 use Rattle.std.proofs.lemmas.Bool.{cases_lt, cases_eq}
 use Rattle.std.proofs.Math.Pow.{pow_mono, mod-mod-pow}
 use Rattle.std.proofs.Math.Nat.{mod-eq_of_lt, div-eq_of_lt, mod-lt, mod-add-div', mul-le-mul_right, mul_assoc, mul-add-div_right}
@@ -24,14 +24,10 @@ use Rattle.bm_bufs.proofs.StepLemmas.{few_picked, four_numbers}
 use Rattle.bm_bufs.proofs.RunLemmas.{first_clear, run_count, chunk_copied}
 use Rattle.bm_base.proofs.PowerLemmas.{cut_below}
 
--- a number from its run and its place there
-parts : (z low : ℕ) → z / 2 ^ low * 2 ^ low + z % 2 ^ low ≡ z
-parts z low = let p : z % 2 ^ low + z / 2 ^ low * 2 ^ low ≡ z = mod-add-div' z (2 ^ low) in omega arith
-
 -- where there are no low bits, a XOR of low bits is a sum
 xor_low : (z low j : ℕ) → z % 2 ^ low ≡ 0 → j < 2 ^ low → bit_xor z j ≡ z + j
 xor_low z low j clear small =
-    let p = parts z low in
+    let p = shr_split z low in
     let e : z / 2 ^ low * 2 ^ low ≡ z = omega arith in
     subst (λ x. bit_xor x j ≡ x + j) e (xor_shifted (z / 2 ^ low) low j small)
 
@@ -69,7 +65,7 @@ pub low_column : (b : Matrix) (plus tile j : ℕ) → KeepsTiles b plus tile →
 low_column b plus tile j keeps inside small =
     let c = column b j in
     let none : c / 2 ^ tile ≡ 0 = keeps.highs j inside ∙ div-eq_of_lt (pow_below j tile small) in
-    let p = parts c tile in
+    let p = shr_split c tile in
     let less : c % 2 ^ tile < 2 ^ tile = mod-lt c (pow_pos tile) in
     let e : c / 2 ^ tile * 2 ^ tile ≡ 0 * 2 ^ tile = ap (λ x. x * 2 ^ tile) none in
     omega arith
@@ -122,7 +118,7 @@ apart b low r z nonsingular runs few fits short other =
 -- the run of a number, by its tile and its run there
 tile_run : (z tile low : ℕ) → low ≤ tile → z / 2 ^ low ≡ z / 2 ^ tile * 2 ^ (tile - low) + z % 2 ^ tile / 2 ^ low
 tile_run z tile low few =
-    ap (λ x. x / 2 ^ low) (sym (parts z tile))
+    ap (λ x. x / 2 ^ low) (sym (shr_split z tile))
     ∙ ap (λ x. (z / 2 ^ tile * x + z % 2 ^ tile) / 2 ^ low) (run_count tile low few)
     ∙ ap (λ x. (x + z % 2 ^ tile) / 2 ^ low) (sym (mul_assoc (z / 2 ^ tile) (2 ^ (tile - low)) (2 ^ low)))
     ∙ mul-add-div_right (pow_pos low) (z / 2 ^ tile * 2 ^ (tile - low)) (z % 2 ^ tile)
@@ -135,7 +131,7 @@ low_again z tile low few = let e : tile - low + low ≡ tile = omega arith in
 -- a number of a tile
 tile_end : (z n tile : ℕ) → tile ≤ n → z / 2 ^ tile < 2 ^ (n - tile) → z < 2 ^ n
 tile_end z n tile few inside =
-    let p = parts z tile in
+    let p = shr_split z tile in
     let less : z % 2 ^ tile < 2 ^ tile = mod-lt z (pow_pos tile) in
     let whole = run_count n tile few in
     let room : (z / 2 ^ tile + 1) * 2 ^ tile ≤ 2 ^ (n - tile) * 2 ^ tile =
@@ -194,7 +190,7 @@ place_fits b low r runs few short =
     let some : 0 < 2 ^ low = pow_pos low in
     let end = run_end r b.n low few short in
     let clear : at % 2 ^ low ≡ 0 = low_rows b low (r * 2 ^ low) runs (omega arith) ∙ first_clear r low in
-    let p = parts at low in
+    let p = shr_split at low in
     let run : at / 2 ^ low < 2 ^ (b.n - low) = cut_below b.n low at few (image_below b (r * 2 ^ low)) in
     let room = run_end (at / 2 ^ low) b.n low few run in
     (omega arith, omega arith)
@@ -225,14 +221,14 @@ gathered m w o load row inside runs z is =
     let run : k < 2 ^ (m.tile - m.low) = cut_below m.tile m.low (z % 2 ^ m.tile) m.low_in (mod-lt z (pow_pos m.tile)) in
     let number : z / 2 ^ m.low ≡ r = tile_run z m.tile m.low m.low_in ∙ ap (λ x. x * 2 ^ (m.tile - m.low) + k) is in
     let again = low_again z m.tile m.low m.low_in in
-    let p : z / 2 ^ m.low * 2 ^ m.low + z % 2 ^ m.low ≡ z = parts z m.low in
+    let p : z / 2 ^ m.low * 2 ^ m.low + z % 2 ^ m.low ≡ z = shr_split z m.low in
     let first : z / 2 ^ m.low * 2 ^ m.low ≡ r * 2 ^ m.low = ap (λ x. x * 2 ^ m.low) number in
     let sum : r * 2 ^ m.low + j ≡ z = omega arith in
     let short : z < 2 ^ m.basis.n = tile_end z m.basis.n m.tile tile_few (subst (λ x. x < 2 ^ (m.basis.n - m.tile)) (sym is) inside) in
     let goes : image m.basis (r * 2 ^ m.low + j) ≡ at + j =
     in_run m.basis m.low (r * 2 ^ m.low) j m.runs few (omega arith) (first_clear r m.low) small in
     let whole = (place_fits m.basis m.low r m.runs few (run_of_tile o k m.basis.n m.tile m.low m.low_in tile_few inside run)).0 in
-    ap (slice_chunk row w) (sym (parts (z % 2 ^ m.tile) m.low))
+    ap (slice_chunk row w) (sym (shr_split (z % 2 ^ m.tile) m.low))
     ∙ chunk_copied w (2 ^ m.low) k (at / 2 ^ m.low) j row load small (runs k run)
     ∙ ap (slice_chunk load w) (ap (λ x. x + j) whole ∙ sym goes ∙ ap (image m.basis) sum)
 
@@ -244,7 +240,7 @@ filled_run m w r row old new inside fills z is =
     let few : m.low ≤ m.basis.n = omega (arith, m.low_in, m.tile_in, m.basis_size) in
     let j = z % 2 ^ m.low in
     let small : j < 2 ^ m.low = mod-lt z (pow_pos m.low) in
-    let p : z / 2 ^ m.low * 2 ^ m.low + z % 2 ^ m.low ≡ z = parts z m.low in
+    let p : z / 2 ^ m.low * 2 ^ m.low + z % 2 ^ m.low ≡ z = shr_split z m.low in
     let first : z / 2 ^ m.low * 2 ^ m.low ≡ r * 2 ^ m.low = ap (λ x. x * 2 ^ m.low) is in
     let sum : z ≡ r * 2 ^ m.low + j = omega arith in
     let end = run_end r m.basis.n m.low few inside in

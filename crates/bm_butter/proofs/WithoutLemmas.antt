@@ -1,12 +1,12 @@
 -- Sums of columns of which one is left out.
-use Rattle.std.proofs.Common.{◌≡◌, ℕ, zero, suc, ◌+◌, ◌-◌, ◌*◌, ◌/◌, ◌%◌, ◌^◌, ◌<◌, ◌≤◌, bit_xor, sym, ap, ◌∙◌, arith}
+use Rattle.std.proofs.Common.{◌≡◌, ℕ, zero, suc, ◌+◌, ◌-◌, ◌*◌, ◌/◌, ◌%◌, ◌^◌, ◌<◌, ◌≤◌, bit_xor, sym, ap, ◌∙◌, arith, zero-mul}
 use Rattle.std.specs.Int.{bit_at}
 use Rattle.std.specs.Int.Bits.{xor_zero_r}
 use Rattle.std.proofs.lemmas.Nat.{pow_pos}
 use Rattle.std.proofs.lemmas.Nat.Bits.{bit_at_cat_low, bit_at_cat_high}
 use Rattle.std.proofs.Math.Nat.{mod-lt, mod-add-div'}
 use Rattle.bm_gf2.specs.Vector.{xor_sum}
-use Rattle.bm_gf2.proofs.VectorLemmas.{xor_same, xor_sum-ext, xor_sum-bits, xor_sum-above, bit_of_low, zero_times}
+use Rattle.bm_gf2.proofs.VectorLemmas.{xor_same, xor_sum-ext, xor_sum-bits, xor_sum-above, bit_of_low}
 use Rattle.bm_butter.specs.Groups.{spread}
 use Rattle.bm_butter.proofs.SpreadLemmas.{spread_bit, twice_as_many}
 use Rattle.bm_base.proofs.PowerLemmas.{two_halves}
@@ -40,7 +40,7 @@ sum_without : (v w : ℕ → ℕ) (i k x : ℕ) → ((j : ℕ) → j < i → v j
     → xor_sum v (i + k) x ≡ xor_sum w (i + k + 1) (spread i x)
 unfolding xor_sum
 sum_without v w i zero x low high =
-    let none : bit_at (spread i x) i * w i ≡ 0 = ap (λ c. c * w i) (spread_bit i x) ∙ zero_times (w i) in
+    let none : bit_at (spread i x) i * w i ≡ 0 = ap (λ c. c * w i) (spread_bit i x) ∙ zero-mul (w i) in
     ap (λ c. xor_sum v c x) (let e : i + 0 ≡ i = omega arith in e)
     ∙ xor_sum-ext v w i x low ∙ xor_sum-bits w i x (spread i x) (spread_low i x)
     ∙ sym (xor_zero_r (xor_sum w i (spread i x))) ∙ ap (bit_xor (xor_sum w i (spread i x))) (sym none)

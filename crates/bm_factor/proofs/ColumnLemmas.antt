@@ -1,5 +1,5 @@
 -- Columns of matrices that are their own inverses.
-use Rattle.std.proofs.Common.{◌≡◌, ℕ, zero, suc, ◌*◌, ◌^◌, ◌<◌, ◌≤◌, bit_xor, refl, sym, ap, ◌∙◌, arith, ⊎_elim}
+use Rattle.std.proofs.Common.{◌≡◌, ℕ, zero, suc, ◌*◌, ◌^◌, ◌<◌, ◌≤◌, bit_xor, refl, sym, ap, ◌∙◌, arith, ⊎_elim, zero-mul}
 use Rattle.std.specs.Int.{bit_at}
 use Rattle.std.proofs.Math.Nat.{mod-eq_of_lt}
 use Rattle.std.proofs.lemmas.Nat.Bits.{bit_at-lt}
@@ -7,7 +7,7 @@ use Rattle.bm_gf2.specs.Vector.{xor_sum}
 use Rattle.bm_gf2.specs.declared.matrix.Matrix.{Matrix}
 use Rattle.bm_gf2.specs.Matrix.{image, column}
 use Rattle.bm_gf2.proofs.VectorLemmas.{xor_sum-xor, xor_sum-pow, xor_sum-xor_sum, xor_sum-ext, xor_sum-units, xor_sum-above, bit_cases}
-use Rattle.bm_gf2.proofs.VectorLemmas.{xor_same, xor_cancel, zero_times}
+use Rattle.bm_gf2.proofs.VectorLemmas.{xor_same, xor_cancel}
 use Rattle.bm_factor.specs.Columns.{IsOwnInverse}
 
 -- the columns that are picked decide
@@ -17,7 +17,7 @@ xor_sum-picked v w zero x h = refl
 xor_sum-picked v w (suc k) x h =
     xor_same (xor_sum-picked v w k x (λ j l. h j (omega arith)))
     (⊎_elim
-    (λ (p : (bit_at x k ≡ 0) × (bit_at x k * v k ≡ 0)). p.1 ∙ sym (ap (λ (c : ℕ). c * w k) p.0 ∙ zero_times (w k)))
+    (λ (p : (bit_at x k ≡ 0) × (bit_at x k * v k ≡ 0)). p.1 ∙ sym (ap (λ (c : ℕ). c * w k) p.0 ∙ zero-mul (w k)))
     (λ (p : (bit_at x k ≡ 1) × (bit_at x k * v k ≡ v k)). ap (λ (c : ℕ). bit_at x k * c) (h k (omega arith) p.0))
     (bit_cases (bit_at x k) (v k) (bit_at-lt x k)))
 

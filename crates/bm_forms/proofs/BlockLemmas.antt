@@ -1,6 +1,6 @@
 -- No block of a target holds records of two loads.
 use Rattle.std.proofs.Common.{ℕ, ◌≡◌, ◌+◌, ◌*◌, ◌/◌, ◌%◌, ◌^◌, ◌<◌, ◌≤◌, List, length, length-take, get_or-take, take, map, slice_index}
-use Rattle.std.proofs.Common.{bit_xor, sym, ap, ◌∙◌, subst, arith}
+use Rattle.std.proofs.Common.{bit_xor, sym, ap, ◌∙◌, subst, arith, zero-mul}
 use Rattle.std.specs.Int.Bits.{xor_self, xor_shr, xor_zero_l}
 use Rattle.std.proofs.lemmas.List.{get_or-map, length-map}
 use Rattle.std.proofs.lemmas.Nat.{xor_lt, pow_pos, shr_split}
@@ -10,7 +10,7 @@ use Rattle.bm_gf2.specs.declared.matrix.Matrix.{Matrix}
 use Rattle.bm_gf2.specs.Matrix.{image, column, IsNonsingular}
 use Rattle.bm_gf2.specs.Affine.{affine_image}
 use Rattle.bm_gf2.proofs.VectorLemmas.{xor_sum-xor, xor_sum-ext, xor_sum-mod, xor_sum-above, xor_sum-bits, xor_swap, eq_of_xor-zero}
-use Rattle.bm_gf2.proofs.VectorLemmas.{zero_times, bit_of_low}
+use Rattle.bm_gf2.proofs.VectorLemmas.{bit_of_low}
 use Rattle.bm_rank.specs.RowSolution.{IsCovered, middle_rows}
 use Rattle.bm_rank.proofs.KernelLemmas.{IsIndependent}
 use Rattle.bm_rank.proofs.SpanLemmas.{sum_of_span}
@@ -75,7 +75,7 @@ low_reaches a b m v ns l le c h =
 whole_of_low : (v w m : ℕ) → v / 2 ^ m ≡ 0 → v % 2 ^ m ≡ w → v ≡ w
 whole_of_low v w m h e =
     let s : v / 2 ^ m * 2 ^ m + v % 2 ^ m ≡ v = shr_split v m in
-    let z : v / 2 ^ m * 2 ^ m ≡ 0 = ap (λ (c : ℕ). c * 2 ^ m) h ∙ zero_times (2 ^ m) in
+    let z : v / 2 ^ m * 2 ^ m ≡ 0 = ap (λ (c : ℕ). c * 2 ^ m) h ∙ zero-mul (2 ^ m) in
     omega arith
 
 -- addresses whose images lie in one block are of one load

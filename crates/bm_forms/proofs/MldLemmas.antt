@@ -1,5 +1,5 @@
 -- Where a form sends a record of a load.
-use Rattle.std.proofs.Common.{◌≡◌, ℕ, ◌+◌, ◌-◌, ◌*◌, ◌/◌, ◌%◌, ◌^◌, ◌<◌, ◌≤◌, slice_index, bit_xor, sym, ap, ◌∙◌, subst, arith}
+use Rattle.std.proofs.Common.{◌≡◌, ℕ, ◌+◌, ◌-◌, ◌*◌, ◌/◌, ◌%◌, ◌^◌, ◌<◌, ◌≤◌, slice_index, bit_xor, sym, ap, ◌∙◌, subst, arith, zero-mul}
 use Rattle.std.specs.Int.Bits.{xor_assoc, xor_shr, xor_mod, xor_shifted}
 use Rattle.std.proofs.lemmas.Nat.{pow_pos, shr_split, shl_below, shl_whole, pow_below}
 use Rattle.std.proofs.Math.Nat.{mod-lt, div-one, div-eq_of_lt, mul_comm}
@@ -7,7 +7,7 @@ use Rattle.bm_gf2.specs.Vector.{xor_sum}
 use Rattle.bm_gf2.specs.declared.matrix.Matrix.{Matrix}
 use Rattle.bm_gf2.specs.declared.row_map.RowMap.{RowMap}
 use Rattle.bm_gf2.specs.Matrix.{image, column, IsNonsingular}
-use Rattle.bm_gf2.proofs.VectorLemmas.{xor_sum-xor, xor_sum-zero, xor_sum-lt, xor_sum-above, xor_sum-pow, xor_cancel, zero_times}
+use Rattle.bm_gf2.proofs.VectorLemmas.{xor_sum-xor, xor_sum-zero, xor_sum-lt, xor_sum-above, xor_sum-pow, xor_cancel}
 use Rattle.bm_rank.specs.RowSolution.{IsSolution, IsCut, IsCovered, middle_rows, top_rows}
 use Rattle.bm_rank.proofs.RowCutLemmas.{cut_xor_sum, middle_of_low}
 use Rattle.bm_forms.specs.Mld.{IsMld, IsMrc, HasNoTop}
@@ -103,7 +103,7 @@ lands v p t m place load =
 pub below_of_none : (v m : ℕ) → v / 2 ^ m ≡ 0 → v < 2 ^ m
 below_of_none v m none =
     let split : v / 2 ^ m * 2 ^ m + v % 2 ^ m ≡ v = shr_split v m in
-    let zero_part : v / 2 ^ m * 2 ^ m ≡ 0 = ap (λ (c : ℕ). c * 2 ^ m) none ∙ zero_times (2 ^ m) in
+    let zero_part : v / 2 ^ m * 2 ^ m ≡ 0 = ap (λ (c : ℕ). c * 2 ^ m) none ∙ zero-mul (2 ^ m) in
     let low : v % 2 ^ m < 2 ^ m = mod-lt v (pow_pos m) in
     omega arith
 

@@ -1,5 +1,5 @@
 -- The transform of the low address bits alone, bit by bit.
-use Rattle.std.proofs.Common.{ℕ, suc, ◌≡◌, ◌+◌, ◌*◌, ◌/◌, ◌%◌, ◌^◌, ◌<◌, bit_and, count_ones, refl, sym, ap, ◌∙◌, arith}
+use Rattle.std.proofs.Common.{ℕ, suc, ◌≡◌, ◌+◌, ◌*◌, ◌/◌, ◌%◌, ◌^◌, ◌<◌, bit_and, count_ones, refl, sym, ap, ◌∙◌, arith, zero-mul}
 use Rattle.std.proofs.lemmas.Nat.{pow_pos, and_le_r, shr_split, mod-pow-add}
 use Rattle.std.proofs.Math.Nat.{add-mul, add-div_right, pow-suc, mod-eq_of_lt}
 use Rattle.std.specs.Int.{bit_at}
@@ -8,7 +8,6 @@ use Rattle.bm_forms.specs.Transform.{sum_below, signed}
 use Rattle.bm_base.proofs.CaseLemmas.{if_same, plus_same}
 use Rattle.bm_forms.proofs.TransformLemmas.{none_in_zero, sum_below-same, sum_below-split, sum_below-against, sum_below-one, and_low}
 use Rattle.bm_forms.proofs.TransformLemmas.{and_high, signed-same, signed-against, and_none}
-use Rattle.bm_gf2.proofs.VectorLemmas.{zero_times}
 use Rattle.bm_base.proofs.ButterflyLemmas.{set_bit}
 use Rattle.bm_base.proofs.PowerLemmas.{two_halves}
 
@@ -46,7 +45,7 @@ cut_more k r =
 base_clear : (k r : ℕ) → bit_at k r ≡ 0 → k / 2 ^ (r + 1) * 2 ^ (r + 1) ≡ k / 2 ^ r * 2 ^ r
 base_clear k r h =
     let c : k / 2 ^ r * 2 ^ r ≡ k / 2 ^ (r + 1) * 2 ^ (r + 1) + bit_at k r * 2 ^ r = cut_more k r in
-    let z : bit_at k r * 2 ^ r ≡ 0 = ap (λ (c : ℕ). c * 2 ^ r) h ∙ zero_times (2 ^ r) in
+    let z : bit_at k r * 2 ^ r ≡ 0 = ap (λ (c : ℕ). c * 2 ^ r) h ∙ zero-mul (2 ^ r) in
     omega arith
 
 -- one more block of 2 ^ r

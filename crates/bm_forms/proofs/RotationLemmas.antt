@@ -1,5 +1,5 @@
 -- The rotation's matrix.
-use Rattle.std.proofs.Common.{ℕ, ◌≡◌, ◌+◌, ◌-◌, ◌*◌, ◌/◌, ◌%◌, ◌^◌, ◌<◌, ◌≤◌, bit_xor, sym, ap, ◌∙◌, subst, arith}
+use Rattle.std.proofs.Common.{ℕ, ◌≡◌, ◌+◌, ◌-◌, ◌*◌, ◌/◌, ◌%◌, ◌^◌, ◌<◌, ◌≤◌, bit_xor, sym, ap, ◌∙◌, subst, arith, zero-mul}
 use Rattle.std.specs.Int.Bits.{xor_zero_l, xor_shifted}
 use Rattle.std.proofs.lemmas.Nat.{pow_pos, pow-add, xor_block}
 use Rattle.std.proofs.Math.Nat.{mod-eq_of_lt, add-mod_right}
@@ -7,7 +7,7 @@ use Rattle.std.proofs.Math.Pow.{shr_lt}
 use Rattle.bm_gf2.specs.Vector.{xor_sum}
 use Rattle.bm_gf2.specs.declared.affine.Affine.{Affine}
 use Rattle.bm_gf2.specs.Matrix.{image, column}
-use Rattle.bm_gf2.proofs.VectorLemmas.{xor_sum-split, xor_sum-ext, xor_sum-map, xor_sum-units, xor_same, zero_times}
+use Rattle.bm_gf2.proofs.VectorLemmas.{xor_sum-split, xor_sum-ext, xor_sum-map, xor_sum-units, xor_same}
 use Rattle.bm_gf2.proofs.ShiftLemmas.{xor_shl}
 use Rattle.bm_forms.proofs.RoundLemmas.{rotated, IsRotation}
 
@@ -22,7 +22,7 @@ rotation_image w n by x l h e =
     = xor_sum-ext w (λ j. 2 ^ j * 2 ^ rest) by x
     (λ j b. e j (omega arith) ∙ ap (λ (c : ℕ). 2 ^ c)
     (mod-eq_of_lt (let f : j + n - by < n = omega arith in f) ∙ (let f : j + n - by ≡ j + rest = omega arith in f)) ∙ pow-add 2 j rest)
-    ∙ sym (xor_sum-map (λ (c : ℕ). c * 2 ^ rest) (λ j. 2 ^ j) by x (zero_times (2 ^ rest)) (λ a b. xor_shl a b rest))
+    ∙ sym (xor_sum-map (λ (c : ℕ). c * 2 ^ rest) (λ j. 2 ^ j) by x (zero-mul (2 ^ rest)) (λ a b. xor_shl a b rest))
     ∙ ap (λ (c : ℕ). c * 2 ^ rest) (xor_sum-units by x) in
     let high : xor_sum (λ j. w (by + j)) rest (x / 2 ^ by) ≡ x / 2 ^ by
     = xor_sum-ext (λ j. w (by + j)) (λ j. 2 ^ j) rest (x / 2 ^ by)

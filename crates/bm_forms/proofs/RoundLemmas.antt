@@ -1,5 +1,5 @@
 -- Rounds of butterflies and rotations make the transform.
-use Rattle.std.proofs.Common.{ℕ, zero, suc, ◌≡◌, ◌+◌, ◌-◌, ◌*◌, ◌/◌, ◌%◌, ◌^◌, ◌<◌, ◌≤◌, List, sym, ap, ◌∙◌, subst, arith, ⊎_elim}
+use Rattle.std.proofs.Common.{ℕ, zero, suc, ◌≡◌, ◌+◌, ◌-◌, ◌*◌, ◌/◌, ◌%◌, ◌^◌, ◌<◌, ◌≤◌, List, sym, ap, ◌∙◌, subst, arith, ⊎_elim, zero-mul}
 use Rattle.std.proofs.lemmas.Bool.{cases_eq}
 use Rattle.std.proofs.lemmas.Nat.{pow_pos, shr-shr, mod-pow-add, pow-add, mul-add-lt}
 use Rattle.std.proofs.Math.Nat.{add-mul, mul_assoc, mod-lt, mod-one, mod-eq_of_lt, div-eq_of_lt, add-mul-div_right, add-mul-mod_self_right}
@@ -17,7 +17,6 @@ use Rattle.bm_forms.specs.Transform.{transformed}
 use Rattle.bm_forms.specs.Permutation.{permuted}
 use Rattle.bm_forms.proofs.PermutationLemmas.{permuted-image}
 use Rattle.bm_forms.proofs.PartialLemmas.{partial, partial-none, partial-all, partial-clear, partial-set}
-use Rattle.bm_gf2.proofs.VectorLemmas.{zero_times}
 
 -- ---- the rotation by `by` of n bits: target bit i is source bit i + by
 
@@ -85,7 +84,7 @@ unfolding rotated
 rotated-none n x =
     let m : x % 1 ≡ 0 = mod-one x in
     let d : x / 1 ≡ x = omega arith in
-    let z : 0 * 2 ^ (n - 0) ≡ 0 = zero_times (2 ^ (n - 0)) in
+    let z : 0 * 2 ^ (n - 0) ≡ 0 = zero-mul (2 ^ (n - 0)) in
     rw (m, d, z) (omega arith)
 
 -- a rotation by all bits

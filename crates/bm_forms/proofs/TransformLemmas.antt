@@ -8,9 +8,9 @@ use Rattle.std.specs.Int.{bit_at}
 use Rattle.std.specs.Int.Count.{ones_step}
 use Rattle.bm_base.specs.Butterfly.{negative, number_in, record_of}
 use Rattle.std.specs.Int.Count.{ones}
+use Rattle.std.proofs.Common.{zero-mul}
 use Rattle.bm_base.proofs.CaseLemmas.{if_same, if_other}
 use Rattle.bm_forms.specs.Transform.{sum_below, signed, transformed}
-use Rattle.bm_gf2.proofs.VectorLemmas.{zero_times}
 
 -- ---- sums
 
@@ -94,10 +94,10 @@ pub and_low : (k r t : ℕ) → t < 2 ^ r → bit_and k t ≡ bit_and (k % 2 ^ r
 and_low k r t h =
     ap (λ (c : ℕ). bit_and c t) (sym (shr_split k r))
     ∙ ap (λ (c : ℕ). bit_and (k / 2 ^ r * 2 ^ r + k % 2 ^ r) c)
-    (let e : t ≡ 0 * 2 ^ r + t = (let z = zero_times (2 ^ r) in omega arith) in e)
+    (let e : t ≡ 0 * 2 ^ r + t = (let z = zero-mul (2 ^ r) in omega arith) in e)
     ∙ and_block r (k / 2 ^ r) 0 (k % 2 ^ r) t (mod-lt k (pow_pos r)) h
     ∙ ap (λ (c : ℕ). c * 2 ^ r + bit_and (k % 2 ^ r) t) (and_none (k / 2 ^ r))
-    ∙ (let z = zero_times (2 ^ r) in let e : 0 * 2 ^ r + bit_and (k % 2 ^ r) t ≡ bit_and (k % 2 ^ r) t = omega arith in e)
+    ∙ (let z = zero-mul (2 ^ r) in let e : 0 * 2 ^ r + bit_and (k % 2 ^ r) t ≡ bit_and (k % 2 ^ r) t = omega arith in e)
 
 -- bit r of k counts where r is set
 pub and_high : (k r t : ℕ) → t < 2 ^ r → count_ones (bit_and k (2 ^ r + t)) ≡ bit_at k r + count_ones (bit_and k t)

@@ -7,6 +7,7 @@ use Rattle.std.proofs.lemmas.Nat.{xor_comm, xor_lt, pow_pos, mod-pow-add, shr-sh
 use Rattle.std.proofs.Math.Nat.{zero-div, mod-eq_of_lt, mod-lt, mod-one, add-suc, mod-add-div'}
 use Rattle.std.proofs.lemmas.Nat.Bits.{bit_at_cat_low, bit_at-lt, bit_at-pow_same, bit_at-pow_other, bit_at_above, bit_at-zero, shr_and_one}
 use Rattle.std.proofs.lemmas.Bool.{cases_lt, cases_eq}
+use Rattle.std.proofs.Common.{zero-mul}
 use Rattle.bm_gf2.specs.Vector.{xor_sum}
 
 -- ---- XOR
@@ -38,21 +39,17 @@ eq_of_xor-zero a b h = sym (xor_cancel_right a b) ∙ ap (λ (x : ℕ). bit_xor 
 pub bit_of_xor : (a b i : ℕ) → bit_at (bit_xor a b) i ≡ bit_xor (bit_at a i) (bit_at b i)
 bit_of_xor a b i = ap (λ (x : ℕ). x % 2) (xor_shr a b i) ∙ xor_mod (a / 2 ^ i) (b / 2 ^ i) 1
 
--- nothing, picked
-pub zero_times : (w : ℕ) → 0 * w ≡ 0
-zero_times w = omega arith
-
 -- a product with a bit distributes
 pub bit_times : (b c w : ℕ) → b < 2 → c < 2 → bit_xor b c * w ≡ bit_xor (b * w) (c * w)
-bit_times zero c w hb hc = let e = zero_times w in rw e refl
-bit_times (suc zero) zero w hb hc = sym (rw (zero_times w) (xor_zero_r (1 * w)))
-bit_times (suc zero) (suc zero) w hb hc = zero_times w ∙ sym (xor_self (1 * w))
+bit_times zero c w hb hc = let e = zero-mul w in rw e refl
+bit_times (suc zero) zero w hb hc = sym (rw (zero-mul w) (xor_zero_r (1 * w)))
+bit_times (suc zero) (suc zero) w hb hc = zero-mul w ∙ sym (xor_self (1 * w))
 bit_times (suc zero) (suc (suc c)) w hb hc = absurd (omega arith)
 bit_times (suc (suc b)) c w hb hc = absurd (omega arith)
 
 -- a bit is 0 or 1
 pub bit_cases : (b w : ℕ) → b < 2 → ((b ≡ 0) × (b * w ≡ 0)) ⊎ ((b ≡ 1) × (b * w ≡ w))
-bit_cases zero w h = inl (refl, zero_times w)
+bit_cases zero w h = inl (refl, zero-mul w)
 bit_cases (suc zero) w h = inr (refl, omega arith)
 bit_cases (suc (suc b)) w h = absurd (omega arith)
 
@@ -62,7 +59,7 @@ bit_cases (suc (suc b)) w h = absurd (omega arith)
 pub xor_sum-zero : (w : ℕ → ℕ) (k : ℕ) → xor_sum w k 0 ≡ 0
 unfolding xor_sum
 xor_sum-zero w zero = refl
-xor_sum-zero w (suc k) = rw (xor_sum-zero w k, bit_at-zero k) (zero_times (w k))
+xor_sum-zero w (suc k) = rw (xor_sum-zero w k, bit_at-zero k) (zero-mul (w k))
 
 -- columns that are all 0
 pub xor_sum-zeros : (w : ℕ → ℕ) (k x : ℕ) → ((j : ℕ) → j < k → w j ≡ 0) → xor_sum w k x ≡ 0
@@ -114,7 +111,7 @@ xor_sum-map f w (suc k) x f0 fx =
     fx (xor_sum w k x) (bit_at x k * w k)
     ∙ xor_same (xor_sum-map f w k x f0 fx)
     (⊎_elim
-    (λ (p : (bit_at x k ≡ 0) × (bit_at x k * w k ≡ 0)). ap f p.1 ∙ f0 ∙ sym (zero_times (f (w k))) ∙ ap (λ (c : ℕ). c * f (w k)) (sym p.0))
+    (λ (p : (bit_at x k ≡ 0) × (bit_at x k * w k ≡ 0)). ap f p.1 ∙ f0 ∙ sym (zero-mul (f (w k))) ∙ ap (λ (c : ℕ). c * f (w k)) (sym p.0))
     (λ (p : (bit_at x k ≡ 1) × (bit_at x k * w k ≡ w k)). ap f p.1 ∙ (let e : f (w k) ≡ 1 * f (w k) = omega arith in e)
     ∙ ap (λ (c : ℕ). c * f (w k)) (sym p.0))
     (bit_cases (bit_at x k) (w k) (bit_at-lt x k)))
@@ -158,7 +155,7 @@ xor_sum-above w k zero x l h = let e : k ≡ 0 = omega arith in rw e refl
 xor_sum-above w k (suc m) x l h =
     ⊎_elim
     (λ (p : m < k). let e : k ≡ suc m = omega arith in rw e refl)
-    (λ (p : k ≤ m). xor_same (xor_sum-above w k m x p h) (ap (λ (c : ℕ). c * w m) (bit_at_above x k m h p) ∙ zero_times (w m))
+    (λ (p : k ≤ m). xor_same (xor_sum-above w k m x p h) (ap (λ (c : ℕ). c * w m) (bit_at_above x k m h p) ∙ zero-mul (w m))
     ∙ xor_zero_r (xor_sum w k x))
     (cases_lt m k)
 
@@ -168,7 +165,7 @@ unfolding xor_sum
 xor_sum-none w zero j l = refl
 xor_sum-none w (suc k) j l =
     xor_same (xor_sum-none w k j (omega arith))
-    (ap (λ (c : ℕ). c * w k) (bit_at-pow_other j k (omega arith)) ∙ zero_times (w k))
+    (ap (λ (c : ℕ). c * w k) (bit_at-pow_other j k (omega arith)) ∙ zero-mul (w k))
 
 -- a unit vector below 2 ^ k picks its column
 pub xor_sum-pow : (w : ℕ → ℕ) (k j : ℕ) → j < k → xor_sum w k (2 ^ j) ≡ w j
@@ -176,7 +173,7 @@ unfolding xor_sum
 xor_sum-pow w zero j l = absurd (omega arith)
 xor_sum-pow w (suc k) j l =
     ⊎_elim
-    (λ (p : j < k). xor_same (xor_sum-pow w k j p) (ap (λ (c : ℕ). c * w k) (bit_at-pow_other j k (omega arith)) ∙ zero_times (w k))
+    (λ (p : j < k). xor_same (xor_sum-pow w k j p) (ap (λ (c : ℕ). c * w k) (bit_at-pow_other j k (omega arith)) ∙ zero-mul (w k))
     ∙ xor_zero_r (w j))
     (λ (p : k ≤ j). let e : k ≡ j = omega arith in
     xor_same (xor_sum-none w k j p) (ap (λ (c : ℕ). bit_at (2 ^ j) c * w c) e ∙ ap (λ (c : ℕ). c * w j) (bit_at-pow_same j))

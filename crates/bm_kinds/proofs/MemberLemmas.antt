@@ -1,5 +1,5 @@
 -- The numbers of a group, which the bits of a list tell apart.
-use Rattle.std.proofs.Common.{ℕ, zero, suc, ◌≡◌, ◌≢◌, inl, ◌+◌, ◌*◌, ◌/◌, ◌%◌, ◌^◌, ◌<◌, ◌≤◌, bit_and, bit_or, bit_xor, refl, sym}
+use Rattle.std.proofs.Common.{ℕ, zero, suc, ◌≡◌, ◌≢◌, inl, ◌+◌, ◌*◌, ◌/◌, ◌%◌, ◌^◌, ◌<◌, ◌≤◌, bit_and, bit_or, bit_xor, refl, sym, zero-mul}
 use Rattle.std.proofs.Common.{ap, ◌∙◌, arith, ⊎_elim, min}
 use Rattle.std.specs.Int.{bit_at}
 use Rattle.std.specs.Int.Bits.{xor_assoc, xor_zero_r}
@@ -9,7 +9,7 @@ use Rattle.std.proofs.lemmas.Nat.Bits.{bit_at-lt, bit_at-zero, bit_at_and, bit_a
 use Rattle.std.proofs.lemmas.Nat.Bits.{bit_at_above}
 use Rattle.bm_gf2.specs.Vector.{xor_sum}
 use Rattle.bm_gf2.proofs.VectorLemmas.{xor_cancel_right, xor_same, xor_sum-xor, xor_sum-bits, xor_sum-pow, xor_sum-lt, xor_sum_taken}
-use Rattle.bm_gf2.proofs.VectorLemmas.{xor_sum_left, zero_times}
+use Rattle.bm_gf2.proofs.VectorLemmas.{xor_sum_left}
 use Rattle.bm_butter.proofs.PlaceLemmas.{xor_sum-clear}
 use Rattle.bm_butter.specs.OnBits.{set_of, AreBits}
 use Rattle.bm_kinds.specs.Groups.{member}
@@ -28,7 +28,7 @@ number bits count w t = bit_xor w (member bits count t)
 
 -- a picked column at a row
 pub picked : (b v h : ℕ) → b < 2 → bit_at (b * v) h ≡ b * bit_at v h
-picked zero v h small = ap (λ (c : ℕ). bit_at c h) (zero_times v) ∙ bit_at-zero h ∙ sym (zero_times (bit_at v h))
+picked zero v h small = ap (λ (c : ℕ). bit_at c h) (zero-mul v) ∙ bit_at-zero h ∙ sym (zero-mul (bit_at v h))
 picked (suc zero) v h small = ap (λ (c : ℕ). bit_at c h) (let e : 1 * v ≡ v = omega arith in e)
     ∙ (let e : bit_at v h ≡ 1 * bit_at v h = omega arith in e)
 picked (suc (suc b)) v h small = absurd (omega arith)
@@ -120,7 +120,7 @@ in_group_left n count y bits h clear =
     let t = h.digits in
     let more : 2 ^ count ≤ 2 ^ suc count = omega (arith, pow_pos count) in
     let none : bit_at t count * 2 ^ bits count ≡ 0 = ap (λ (c : ℕ). c * 2 ^ bits count) (bit_at_above t count count h.short (omega arith))
-    ∙ zero_times (2 ^ bits count) in
+    ∙ zero-mul (2 ^ bits count) in
     record {
       first = h.first;
       digits = t;

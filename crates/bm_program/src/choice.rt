@@ -27,7 +27,7 @@ pub enum Choice {
 }
 
 /// The call that a first word chooses.
-pub fn choice_of(word: &str) -> Choice
+pub fn choice_by_word(word: &str) -> Choice
     ensures { Chooses word.now result }
 {
     if begins_batch(word) {

@@ -3,7 +3,7 @@
 ghost use Rattle.std.specs.Prelude.{◌≡◌, Err, IfOk};
 ghost use Rattle.bm_top.specs.Status.{code_of};
 
-use crate::choice::{Choice, call_chosen, choice_of};
+use crate::choice::{Choice, call_chosen, choice_by_word};
 use crate::one_job::OneJob;
 use crate::start_error::StartError;
 use crate::streams::Stream;
@@ -21,7 +21,7 @@ use std::rt::Files;
 /// Nothing is opened, read or written where a stream is closed or the words can't be had.
 ///
 /// No contract sees the words of a runtime, nor what its streams hold. So no clause stands here: those
-/// of `choice_of` and `call_chosen` say what is done with words and streams, and tests over real
+/// of `choice_by_word` and `call_chosen` say what is done with words and streams, and tests over real
 /// files hold that these are the program's own.
 pub fn run<R, I, O, E>(rt: &R, input: I, out: O, err: E) -> Result<Status, StartError>
 where
@@ -39,7 +39,7 @@ where
     let mut out = StdSink::new(out);
     let mut err = StdSink::new(err);
     let choice = match words.first() {
-        Some(word) => choice_of(word.as_str()),
+        Some(word) => choice_by_word(word.as_str()),
         None => Choice::One(OneJob::Command),
     };
     call_chosen::<R, StdSource<I>, StdSink<O>, StdSink<E>>(

@@ -1,7 +1,7 @@
 -- Fewer than n vectors do not span all vectors below 2 ^ n.
 use Rattle.std.proofs.Common.{◌≡◌, ◌≢◌, ℕ, zero, suc, ◌+◌, ◌*◌, ◌/◌, ◌%◌, ◌^◌, ◌<◌, ◌≤◌, true, false, List, [], ◌∷◌, length, length-take}
 use Rattle.std.proofs.Common.{get_or-take, take, set, replicate, slice_index, bit_and, bit_xor, refl, sym, ap, ◌∙◌, subst, arith, add-one}
-use Rattle.std.proofs.Common.{inl, inr, ⊎_elim}
+use Rattle.std.proofs.Common.{inl, inr, ⊎_elim, zero-mul}
 use Rattle.std.specs.Int.Bits.{xor_zero_r, xor_self}
 use Rattle.std.proofs.Math.Nat.{mod-lt, two-pow-succ}
 use Rattle.std.proofs.lemmas.Nat.{pow_pos, pow_below, leading_top}
@@ -10,7 +10,7 @@ use Rattle.std.proofs.lemmas.Bool.{cases_Bool, cases_eq}
 use Rattle.std.proofs.lemmas.Grind.{take-set_at}
 use Rattle.std.proofs.lemmas.List.{length-set}
 use Rattle.bm_gf2.specs.Vector.{xor_sum}
-use Rattle.bm_gf2.proofs.VectorLemmas.{xor_sum-low, xor_sum-zero, zero_at, xor_same, zero_times}
+use Rattle.bm_gf2.proofs.VectorLemmas.{xor_sum-low, xor_sum-zero, zero_at, xor_same}
 use Rattle.bm_gf2.specs.declared.matrix.Matrix.{Matrix}
 use Rattle.bm_gf2.specs.Matrix.{image, IsNonsingular}
 use Rattle.bm_rank.specs.Echelon.{IsRowEchelon, IsReduced, pivot_count, weight}
@@ -209,7 +209,7 @@ sum_of_odd w ws x =
 sum_of_even : (w : ℕ) (ws : List ℕ) (x : ℕ) → sum_of (w ∷ ws) (x * 2) ≡ sum_of ws x
 sum_of_even w ws x =
     sum_of-cons w ws (x * 2)
-    ∙ xor_same (ap (λ (c : ℕ). c * w) (lowest_even x) ∙ zero_times w)
+    ∙ xor_same (ap (λ (c : ℕ). c * w) (lowest_even x) ∙ zero-mul w)
     (ap (sum_of ws) (let e : x * 2 / 2 ≡ x = omega arith in e))
 
 -- independent vectors have the rank of their number

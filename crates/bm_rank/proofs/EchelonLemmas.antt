@@ -1,6 +1,6 @@
 -- One more vector in an echelon.
 use Rattle.std.proofs.Common.{◌≡◌, ◌≢◌, ℕ, ◌+◌, ◌*◌, ◌^◌, ◌<◌, ◌≤◌, true, false, List, length, take, set, slice_index, bit_xor, refl, sym}
-use Rattle.std.proofs.Common.{ap, ◌∙◌, subst, arith, ⊎_elim, get_or-set_other, get_or-set_same}
+use Rattle.std.proofs.Common.{ap, ◌∙◌, subst, arith, ⊎_elim, get_or-set_other, get_or-set_same, zero-mul}
 use Rattle.std.specs.Int.{bit_at}
 use Rattle.std.specs.Int.Bits.{xor_assoc, xor_zero_r}
 use Rattle.std.proofs.lemmas.Nat.{xor_comm, xor_lt, pow_below, pow_pos}
@@ -9,7 +9,6 @@ use Rattle.std.proofs.lemmas.Bool.{cases_lt, cases_eq}
 use Rattle.bm_gf2.specs.Vector.{xor_sum}
 use Rattle.bm_gf2.proofs.VectorLemmas.{xor_sum_start, xor_sum-xor, xor_sum-zero, xor_sum-pow, xor_sum-xor_sum, xor_sum-ext, xor_sum-bits}
 use Rattle.bm_gf2.proofs.VectorLemmas.{xor_sum-more, xor_sum-lt, bit_cases, xor_same, xor_cancel_right, eq_of_xor-zero, xor_cancel}
-use Rattle.bm_gf2.proofs.VectorLemmas.{zero_times}
 use Rattle.bm_rank.specs.Echelon.{IsRowEchelon, IsReduced, pivot_count}
 use Rattle.bm_rank.specs.Span.{in_span}
 use Rattle.bm_rank.specs.Echelon.{IsEchelon}
@@ -176,7 +175,7 @@ module _ (n count : ℕ) (kept rows marks : List ℕ) (e : IsEchelon n count kep
       let unit : xor_sum k2 (count + 1) (2 ^ count) ≡ v = xor_sum-pow k2 (count + 1) count (omega arith) ∙ rw get_or-set_same refl in
       let old : xor_sum k2 (count + 1) m ≡ bit_xor v rest =
       sum_with_pushed kept count v m roomk
-      ∙ xor_same marks_pick (ap (λ (c : ℕ). c * v) (bit_at_above m count count marks_fit (omega arith)) ∙ zero_times v)
+      ∙ xor_same marks_pick (ap (λ (c : ℕ). c * v) (bit_at_above m count count marks_fit (omega arith)) ∙ zero-mul v)
       ∙ xor_zero_r (bit_xor v rest) in
       ap (xor_sum k2 (count + 1)) a ∙ xor_sum-xor k2 (count + 1) m (2 ^ count) ∙ xor_same old unit
       ∙ xor_comm (bit_xor v rest) v ∙ xor_cancel v rest ∙ sym b)
@@ -186,7 +185,7 @@ module _ (n count : ℕ) (kept rows marks : List ℕ) (e : IsEchelon n count kep
       ap (xor_sum k2 (count + 1)) a
       ∙ sum_with_pushed kept count v (slice_index marks i) roomk
       ∙ xor_same (e.marked i l)
-      (ap (λ (c : ℕ). c * v) (bit_at_above (slice_index marks i) count count (e.marks_below i l) (omega arith)) ∙ zero_times v)
+      (ap (λ (c : ℕ). c * v) (bit_at_above (slice_index marks i) count count (e.marks_below i l) (omega arith)) ∙ zero-mul v)
       ∙ xor_zero_r (slice_index rows i) ∙ sym b)
       (cases_eq i lead)
 

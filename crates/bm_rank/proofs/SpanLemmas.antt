@@ -9,9 +9,10 @@ use Rattle.std.proofs.lemmas.Bool.{or_cases, eqb-true}
 use Rattle.std.proofs.lemmas.List.{get_or_append_left}
 use Rattle.std.proofs.Math.Seq.{get_or-append_seam}
 use Rattle.std.proofs.Math.Numerals.{one-add}
+use Rattle.std.proofs.Common.{zero-mul}
 use Rattle.bm_gf2.specs.Vector.{xor_sum}
 use Rattle.bm_gf2.proofs.VectorLemmas.{xor_sum-split, xor_sum-xor, xor_sum-more, xor_sum_start, xor_sum-pow, xor_sum-ext, bit_cases}
-use Rattle.bm_gf2.proofs.VectorLemmas.{xor_same, xor_cancel_right, zero_times}
+use Rattle.bm_gf2.proofs.VectorLemmas.{xor_same, xor_cancel_right}
 use Rattle.bm_rank.specs.Span.{in_span, sum_of}
 
 -- the vectors after the first
@@ -96,7 +97,7 @@ sum_of_span (w ∷ ws) v h =
     (λ (p : in_span ws v ≡ true). let s = sum_of_span ws v p in (
       s.0 * 2,
       sum_of-cons w ws (s.0 * 2)
-          ∙ xor_same (ap (λ (c : ℕ). c * w) (lowest_even s.0) ∙ zero_times w)
+          ∙ xor_same (ap (λ (c : ℕ). c * w) (lowest_even s.0) ∙ zero-mul w)
           (ap (sum_of ws) (let e : s.0 * 2 / 2 ≡ s.0 = omega arith in e) ∙ s.1),
     ))
     (λ (p : in_span ws (bit_xor v w) ≡ true). let s = sum_of_span ws (bit_xor v w) p in (

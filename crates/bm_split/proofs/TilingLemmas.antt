@@ -1,6 +1,6 @@
 -- What keeps a record within its tile.
 use Rattle.std.proofs.Common.{◌≡◌, ℕ, zero, suc, ◌+◌, ◌-◌, ◌*◌, ◌/◌, ◌%◌, ◌^◌, ◌<◌, ◌≤◌, List, slice_index, bit_xor, sym, ap, ◌∙◌, subst}
-use Rattle.std.proofs.Common.{arith, ⊎_elim}
+use Rattle.std.proofs.Common.{arith, ⊎_elim, zero-mul}
 use Rattle.std.specs.Int.{bit_at}
 use Rattle.std.specs.Int.Bits.{xor_assoc, xor_shr, xor_shifted, xor_zero_r}
 use Rattle.std.proofs.Math.Nat.{div-eq_of_lt, div-add-mod', mod-lt}
@@ -11,7 +11,7 @@ use Rattle.std.proofs.lemmas.Bool.{cases_lt}
 use Rattle.bm_gf2.specs.Vector.{xor_sum}
 use Rattle.bm_gf2.specs.declared.matrix.Matrix.{Matrix}
 use Rattle.bm_gf2.specs.Matrix.{column, image, IsNonsingular}
-use Rattle.bm_gf2.proofs.VectorLemmas.{xor_sum-xor, xor_sum-pow, xor_sum-ext, xor_sum-zero, xor_same, xor_swap, xor_cancel, zero_times}
+use Rattle.bm_gf2.proofs.VectorLemmas.{xor_sum-xor, xor_sum-pow, xor_sum-ext, xor_sum-zero, xor_same, xor_swap, xor_cancel}
 use Rattle.bm_gf2.proofs.ShiftLemmas.{xor_shl, image_below}
 use Rattle.bm_rank.specs.Inverse.{IsInverse}
 use Rattle.bm_bufs.specs.Tiles.{KeepsTiles}
@@ -36,7 +36,7 @@ in_tile_zero basis tile = record { number = 0; below = pow_pos tile; place = xor
 
 -- a vector or nothing
 in_tile_bit : (basis : Matrix) (tile u b : ℕ) → b < 2 → IsInTile basis tile u → IsInTile basis tile (b * u)
-in_tile_bit basis tile u zero l p = subst (IsInTile basis tile) (sym (zero_times u)) (in_tile_zero basis tile)
+in_tile_bit basis tile u zero l p = subst (IsInTile basis tile) (sym (zero-mul u)) (in_tile_zero basis tile)
 in_tile_bit basis tile u (suc zero) l p = subst (IsInTile basis tile) (let e : u ≡ 1 * u = omega arith in e) p
 in_tile_bit basis tile u (suc (suc b)) l p = absurd (omega arith)
 
@@ -57,7 +57,7 @@ in_tile_sums basis tile v w (suc k) x h =
     (in_tile_bit basis tile (bit_xor (v k) (w k)) b (bit_at-lt x k) (h k (omega arith))))
   where
     times_xor : (b u w : ℕ) → b < 2 → b * bit_xor u w ≡ bit_xor (b * u) (b * w)
-    times_xor zero u w l = zero_times (bit_xor u w) ∙ sym (xor_same (zero_times u) (zero_times w))
+    times_xor zero u w l = zero-mul (bit_xor u w) ∙ sym (xor_same (zero-mul u) (zero-mul w))
     times_xor (suc zero) u w l =
         let e : (c : ℕ) → 1 * c ≡ c = λ c. omega arith in
         e (bit_xor u w) ∙ sym (xor_same (e u) (e w))
