@@ -1,4 +1,4 @@
-use Rattle.std.proofs.Common.{slice_index, arith}
+use Rattle.std.proofs.Common.{slice_index, sym, arith}
 use Rattle.bm_base.specs.Butterfly.{record_of}
 use Rattle.bm_kinds.proofs.OverLemmas.{kernel_digits-more}
 use Rattle.bm_kinds.proofs.group.on_digits.Goals as goal
