@@ -7,9 +7,10 @@ use bm_job::RunError;
 use bm_memrack::MemRack;
 use bm_named::gray;
 use bm_rack::Rack;
-use run_helpers::{GRAYED, holds, is_attached, ran, report};
+use run_helpers::{holds, ran, report};
 use std::alloc::Global;
 use std::test::Fail;
+use test_helpers::{GRAYED, is_attached, rack_of};
 
 // A bay that failed, after so many loads and row calls.
 fn failed(moved: u64, rows: u64, holds: bool) -> Told {
@@ -29,7 +30,7 @@ fn gray_alone<R: Rack>(alloc: Global, rack: &mut R, shape: &Shape) -> Option<(Ru
         return None;
     }
     let report = ran(alloc, rack, shape, &gray(4), 2)?.ok()?;
-    Some((report, holds(alloc, rack, shape, 1, &GRAYED)))
+    Some((report, holds(alloc, rack, shape, 1, GRAYED)))
 }
 
 // One device call of the second bay fails. The others are Finished, and a run of its own ends its job.

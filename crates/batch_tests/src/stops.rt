@@ -11,9 +11,10 @@ use bm_job::RunError;
 use bm_memrack::MemRack;
 use bm_named::bit_reversal;
 use bm_rack::StopRack;
-use run_helpers::{REVERSED, holds, is_attached, ran};
+use run_helpers::{holds, ran};
 use std::alloc::Global;
 use std::test::Fail;
+use test_helpers::{REVERSED, is_attached};
 
 // What a stop leaves of each unit that is not durable: what stands, or zeros.
 const PICKS: [u64; 2] = [0, 0x5555_5555_5555_5555];
@@ -100,7 +101,7 @@ fn is_done_alone<R: StopRack>(alloc: Global, bay: &mut R, shape: &Shape, every: 
         return false;
     }
     let answer = ran(alloc, bay, shape, &bit_reversal(4), every);
-    matches!(answer, Some(Ok(_))) && holds(alloc, bay, shape, 2, &REVERSED)
+    matches!(answer, Some(Ok(_))) && holds(alloc, bay, shape, 2, REVERSED)
 }
 
 // A stop, and after how many loads of a pass progress is made durable.

@@ -137,7 +137,7 @@ fn calls_in_order(rt: HostRuntime) -> Result<(), Fail> {
     for (every, want) in orders {
         let rack = MemRack::new(rt.alloc(), Vec::new(rt.alloc()));
         let mut recorder = Recorder::new(rt.alloc(), rack);
-        if !has_loaded(&mut recorder, &shape) {
+        if !has_loaded(&mut recorder, &shape, INPUT) {
             return Err(Fail::from("disks"));
         }
         recorder.forget();

@@ -14,12 +14,10 @@ use bm_job::{Machine, RunError, Turn};
 use bm_memrack::MemRack;
 use bm_named::{bit_reversal, gray};
 use bm_rack::Rack;
-use run_helpers::{
-    GRAYED, REVERSED, Step, has_loaded, have_made, holds, is_attached, plan_of, ran, report,
-};
+use run_helpers::{Step, has_loaded, have_made, holds, plan_of, ran, report};
 use std::alloc::Global;
 use std::test::Fail;
-use test_helpers::{has_disks, read_area};
+use test_helpers::{GRAYED, INPUT, REVERSED, has_disks, is_attached, read_area};
 
 // What runs in a row answer, and what stands after the first and after the last.
 #[derive(Clone, Copy, Debug, PartialEq, Eq)]
@@ -33,12 +31,12 @@ fn runs_in_a_row<R: Rack>(alloc: Global, rack: &mut R, shape: &Shape, every: u64
     requires { (R.view rack.old).attached ≡ Some (dims_of shape.now) }
 {
     let first = ran(alloc, rack, shape, &bit_reversal(4), every);
-    let reversed = holds(alloc, rack, shape, 2, &REVERSED);
+    let reversed = holds(alloc, rack, shape, 2, REVERSED);
     let second = ran(alloc, rack, shape, &bit_reversal(4), every);
     let other = ran(alloc, rack, shape, &gray(4), every);
     let closed = close_job(rack).is_ok();
     let last = ran(alloc, rack, shape, &gray(4), every);
-    let moved = holds(alloc, rack, shape, 1, &GRAYED);
+    let moved = holds(alloc, rack, shape, 1, GRAYED);
     Runs {
         answers: [first, second, other, last],
         holds: (reversed, closed && moved),
@@ -51,7 +49,7 @@ fn runs_after_a_run(rt: HostRuntime) -> Result<(), Fail> {
     let shape = Shape::new(4, 1, 1, 3, 1).ok().ok_or("shape")?;
     for every in [1, 2] {
         let mut rack = MemRack::new(rt.alloc(), Vec::new(rt.alloc()));
-        if !has_loaded(&mut rack, &shape) {
+        if !has_loaded(&mut rack, &shape, INPUT) {
             return Err(Fail::from("disks"));
         }
         let found = runs_in_a_row(rt.alloc(), &mut rack, &shape, every);
@@ -321,7 +319,7 @@ fn reversal_by_turns(
 ) -> Option<Vec<Told>> {
     let shape = Shape::new(4, 1, d, m, 1).ok()?;
     let mut rack = MemRack::new(alloc, faults);
-    if !has_loaded(&mut rack, &shape) {
+    if !has_loaded(&mut rack, &shape, INPUT) {
         return None;
     }
     by_turns(alloc, &mut rack, &shape, &bit_reversal(4), every, count)

@@ -9,7 +9,7 @@ use bm_job::RunError;
 use bm_memrack::MemRack;
 use bm_named::bit_reversal;
 use bm_rack::StopRack;
-use run_helpers::{PICKS, REVERSED, has_loaded, holds, ran, report};
+use run_helpers::{PICKS, has_loaded, holds, ran, report};
 use std::alloc::Global;
 use std::test::Fail;
 
@@ -151,7 +151,7 @@ fn run_twice<R: StopRack>(
         first,
         rows,
         last,
-        holds: holds(alloc, rack, shape, last.passes, &REVERSED),
+        holds: holds(alloc, rack, shape, last.passes, REVERSED),
     })
 }
 
@@ -165,7 +165,7 @@ fn run_on_disks(
 ) -> Option<Outcome> {
     let shape = Shape::new(4, 1, 1, 3, 1).ok()?;
     let mut rack = MemRack::new(alloc, faults);
-    if !has_loaded(&mut rack, &shape) {
+    if !has_loaded(&mut rack, &shape, INPUT) {
         return None;
     }
     run_twice(
