@@ -169,14 +169,16 @@ fn runs_and_batches(rt: HostRuntime) -> Result<(), Fail> {
         let mut bays = Vec::new(rt.alloc());
         bays.push(MemRack::new(rt.alloc(), Vec::new(rt.alloc())))?;
         let told = alone_then_batch(rt.alloc(), bays.as_mut_slice(), &shape, stop);
-        assert_eq!(rt; told, Some(finished(4, left)), "{after} {pick:x} {every}");
         let mut bays = Vec::new(rt.alloc());
         bays.push(MemRack::new(rt.alloc(), Vec::new(rt.alloc())))?;
         let found = batch_then_alone(rt.alloc(), bays.as_mut_slice(), &shape, stop);
         let error = RunError::Failed;
         assert_eq!(rt;
-            found,
-            Some((BayState::Ended { error }, true)),
+            (told, found),
+            (
+                Some(finished(4, left)),
+                Some((BayState::Ended { error }, true))
+            ),
             "{after} {pick:x} {every}"
         );
     }
