@@ -84,11 +84,11 @@ fn areas_in_pieces(rt: HostRuntime) -> Result<(), Fail> {
     }
     let input = dumped(rt.alloc(), &mut rack, &shape, Area::Input, &[]).ok_or("input")?;
     assert_eq!(rt; input.answer, Ok(()));
-    assert_eq!(rt; input.bytes.as_slice(), INPUT.as_slice());
+    assert_eq!(rt; input.bytes.as_slice(), INPUT);
     assert_eq!(rt; input.pieces.as_slice(), [8usize, 8].as_slice());
     let output = dumped(rt.alloc(), &mut rack, &shape, Area::Two, &[]).ok_or("output")?;
     assert_eq!(rt; output.answer, Ok(()));
-    assert_eq!(rt; output.bytes.as_slice(), REVERSED.as_slice());
+    assert_eq!(rt; output.bytes.as_slice(), REVERSED);
     let part = dumped(rt.alloc(), &mut rack, &shape, Area::Two, &[2]).ok_or("part")?;
     assert_eq!(rt; part.answer, Err(DumpError::SinkFault));
     assert_eq!(rt;

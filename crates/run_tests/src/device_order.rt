@@ -5,6 +5,7 @@ use bm_memrack::MemRack;
 use bm_named::bit_reversal;
 use run_helpers::{Call, Recorder, has_loaded, ran, report};
 use std::test::Fail;
+use test_helpers::INPUT;
 
 // A call as the order names it: a row that is read by its place, one that is written by its area.
 #[derive(Clone, Copy, Debug, PartialEq, Eq)]

@@ -12,6 +12,7 @@ use bm_rack::StopRack;
 use run_helpers::{PICKS, has_loaded, holds, ran, report};
 use std::alloc::Global;
 use std::test::Fail;
+use test_helpers::{INPUT, REVERSED};
 
 // The device calls of a new run in order: s is a sync, p a page call, r a row call. G is the write
 // of a gate that shows loads to be moved; the sync after it makes it durable.
@@ -130,14 +131,11 @@ fn run_twice<R: StopRack>(
     }
     let answer = ran(alloc, rack, shape, map, every)?;
     let first = rack.rows().checked_sub(before)?;
-    match stops {
-        Stops::Never => {}
-        Stops::Once { pick, .. } => {
-            if answer.is_err() {
-                rack.restart(pick)
-            } else {
-                rack.stop_never()
-            }
+    if let Stops::Once { pick, .. } = stops {
+        if answer.is_err() {
+            rack.restart(pick)
+        } else {
+            rack.stop_never()
         }
     }
     let (restarts, last) = match answer {
