@@ -90,8 +90,7 @@ pub fn holds<R: Rack>(
         read_area(alloc, rack, shape, last),
         read_area(alloc, rack, shape, Area::Input),
     ) {
-        (Some(found), Some(input)) => found.as_slice() == output
-            && input.as_slice() == INPUT,
+        (Some(found), Some(input)) => found.as_slice() == output && input.as_slice() == INPUT,
         _ => false,
     }
 }
