@@ -1,12 +1,12 @@
 //! Batches of three jobs that are done, with each of ten seeds, and after a fault.
 
-use crate::calling::said;
-use crate::texts::{MADE, THREE};
+use crate::calling::{THREE, said};
 use bm_memrack::{MemRack, SureRack};
 use bm_rack::Rack;
 use bm_top::Status;
 use std::alloc::Global;
 use std::test::Fail;
+use test_helpers::{DONE, RACK_FAULT, THREE_OUTPUTS};
 
 // A line of words for each of the seeds 0 to 9.
 const LINES: [&str; 10] = [
@@ -55,8 +55,8 @@ fn is_done(alloc: Global, line: &str) -> Option<bool> {
     let said = said(alloc, line, &THREE, 48, &mut bays)?;
     Some(
         said.status == Status::Done
-            && said.out.taken() == MADE
-            && said.err.taken() == b"bmmc: done\n".as_slice()
+            && said.out.taken() == THREE_OUTPUTS
+            && said.err.taken() == DONE.as_bytes()
             && rows_of(&bays) == Some((24, 16, 16)),
     )
 }
@@ -75,7 +75,7 @@ fn after_a_fault(alloc: Global) -> Option<bool> {
     let first = said(alloc, "batch 3 r g i", &THREE, 48, &mut bays)?;
     let stopped = first.status == Status::RackFault
         && first.out.taken().is_empty()
-        && first.err.taken() == b"bmmc: rack fault\n".as_slice();
+        && first.err.taken() == RACK_FAULT.as_bytes();
     // The others are done: of their passes no row call is left, but those of the dump.
     let Some((one, _, three)) = rows_of(&bays) else {
         return None;
@@ -88,7 +88,7 @@ fn after_a_fault(alloc: Global) -> Option<bool> {
         stopped
             && (one, three) == (20, 12)
             && next.status == Status::Done
-            && next.out.taken() == MADE
+            && next.out.taken() == THREE_OUTPUTS
             && (again, last) == (24, 16),
     )
 }

@@ -4,27 +4,22 @@ ghost use Rattle.std.specs.Prelude.{◌≡◌, IsTrue, length};
 ghost use Rattle.bm_batch_call.specs.Words.{AreEnough};
 
 use bm_batch_call::{batch_jobs, batch_top};
-use bm_memrack::{MemSink, SureSource};
+use bm_memrack::SureSource;
 use bm_rack::{Rack, Source};
-use bm_top::Status;
-use std::alloc::{AllocError, Global};
-use test_helpers::words_of;
+use call_helpers::{Answer, line_sink, output_sink};
+use std::alloc::Global;
+use test_helpers::{GRAY, IDENTITY, REVERSAL, text_source, words_of};
 
-/// What a batch said: its status, its output, and its line on standard error.
-#[derive(Drop)]
-pub struct Answer {
-    pub status: Status,
-    pub out: MemSink,
-    pub err: MemSink,
-}
+/// The three jobs of a batch.
+pub const THREE: [&str; 3] = [REVERSAL, GRAY, IDENTITY];
 
 // Job texts as sources.
-fn sources_of(alloc: Global, texts: &[&str]) -> Result<Vec<SureSource>, AllocError> {
+fn sources_of(alloc: Global, texts: &[&str]) -> Option<Vec<SureSource>> {
     let mut sources = Vec::new(alloc);
     for text in texts {
-        sources.push(SureSource::new(text.as_bytes().to_vec(alloc)?))?;
+        sources.push(text_source(alloc, text)?).ok()?;
     }
-    Ok(sources)
+    Some(sources)
 }
 
 /// Whether there are as many job sources and bays as the words name jobs, where they are a batch's.
@@ -54,13 +49,13 @@ fn answered<Y: Rack, J: Source, S: Source>(
     input: &mut S,
     bays: &mut [Y],
 ) -> Option<Answer> {
-    let mut out = MemSink::new(alloc, 512, 64, Vec::new(alloc)).ok()?;
-    let mut err = MemSink::new(alloc, 64, 7, Vec::new(alloc)).ok()?;
+    let mut out = output_sink(alloc, 512)?;
+    let mut err = line_sink(alloc)?;
     if !is_enough(words, jobs.len(), bays.len()) {
         return None;
     }
     let status = batch_top(alloc, words, jobs, input, &mut out, &mut err, bays);
-    Some(Answer { status, out, err })
+    Some(Answer::of(status, out, err))
 }
 
 /// What a line of words says over these devices. Nothing where memory is refused, or where there
@@ -73,7 +68,7 @@ pub fn said_over<Y: Rack, S: Source>(
     bays: &mut [Y],
 ) -> Option<Answer> {
     let words = words_of(alloc, line).ok()?;
-    let mut jobs = sources_of(alloc, texts).ok()?;
+    let mut jobs = sources_of(alloc, texts)?;
     answered(alloc, &words, &mut jobs, input, bays)
 }
 

@@ -8,5 +8,3 @@ mod batch_rows;
 mod calling;
 #[cfg(test)]
 mod refusals;
-#[cfg(test)]
-mod texts;

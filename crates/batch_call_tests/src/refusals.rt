@@ -1,7 +1,6 @@
 //! Batches that are refused: their words, their shapes, their inputs.
 
-use crate::calling::said;
-use crate::texts::{IDENTITY, THREE};
+use crate::calling::{THREE, said};
 use bm_memrack::SureRack;
 use bm_rack::Rack;
 use bm_top::Status;
@@ -114,16 +113,7 @@ fn twice(alloc: Global) -> Option<Status> {
     if first.status != Status::Done {
         return None;
     }
-    Some(
-        said(
-            alloc,
-            "batch 5 r g i",
-            &[REVERSAL, GRAY, IDENTITY],
-            48,
-            &mut bays,
-        )?
-        .status,
-    )
+    Some(said(alloc, "batch 5 r g i", &THREE, 48, &mut bays)?.status)
 }
 
 #[test]

@@ -12,11 +12,12 @@ use bm_forms::Job;
 use bm_gf2::Affine;
 use bm_named::{bit_reversal, gray, identity};
 use bm_rack::Rack;
-use run_helpers::{GRAYED, INPUT, REVERSED, has_loaded, holds, is_attached, plan_of};
+use run_helpers::{has_loaded, holds, plan_of};
 use std::alloc::Global;
+use test_helpers::{GRAYED, INPUT, REVERSED, is_attached};
 
 /// The permutation of bay k, the passes that it takes, and what comes out.
-pub fn work_of(k: usize) -> (Affine, u16, [u8; 16]) {
+pub fn work_of(k: usize) -> (Affine, u16, &'static [u8]) {
     match k {
         0 => (bit_reversal(4), 2, REVERSED),
         1 => (gray(4), 1, GRAYED),
@@ -30,7 +31,7 @@ pub fn have_loaded<R: Rack>(bays: &mut [R], shape: &Shape) -> bool
         → All (λ y. (R.view y).attached ≡ Some (dims_of shape.now)) bays.new }
 {
     for bay in bays.iter_mut() {
-        if !has_loaded(bay, shape) {
+        if !has_loaded(bay, shape, INPUT) {
             return false;
         }
     }
@@ -111,7 +112,7 @@ pub fn finished(moved: u64, rows: u64) -> Told {
 // Whether the bay holds the records that come out, and its input.
 fn has_result<R: Rack>(alloc: Global, rack: &mut R, shape: &Shape, k: usize) -> bool {
     let (_, passes, output) = work_of(k);
-    is_attached(rack, shape) && holds(alloc, rack, shape, passes, &output)
+    is_attached(rack, shape) && holds(alloc, rack, shape, passes, output)
 }
 
 // What is told of each bay, whose row calls before the batch these were.

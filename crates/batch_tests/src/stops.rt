@@ -11,9 +11,10 @@ use bm_job::RunError;
 use bm_memrack::MemRack;
 use bm_named::bit_reversal;
 use bm_rack::StopRack;
-use run_helpers::{REVERSED, holds, is_attached, ran};
+use run_helpers::{holds, ran};
 use std::alloc::Global;
 use std::test::Fail;
+use test_helpers::{REVERSED, is_attached};
 
 // What a stop leaves of each unit that is not durable: what stands, or zeros.
 const PICKS: [u64; 2] = [0, 0x5555_5555_5555_5555];
@@ -100,7 +101,7 @@ fn is_done_alone<R: StopRack>(alloc: Global, bay: &mut R, shape: &Shape, every: 
         return false;
     }
     let answer = ran(alloc, bay, shape, &bit_reversal(4), every);
-    matches!(answer, Some(Ok(_))) && holds(alloc, bay, shape, 2, &REVERSED)
+    matches!(answer, Some(Ok(_))) && holds(alloc, bay, shape, 2, REVERSED)
 }
 
 // A stop, and after how many loads of a pass progress is made durable.
@@ -168,14 +169,16 @@ fn runs_and_batches(rt: HostRuntime) -> Result<(), Fail> {
         let mut bays = Vec::new(rt.alloc());
         bays.push(MemRack::new(rt.alloc(), Vec::new(rt.alloc())))?;
         let told = alone_then_batch(rt.alloc(), bays.as_mut_slice(), &shape, stop);
-        assert_eq!(rt; told, Some(finished(4, left)), "{after} {pick:x} {every}");
         let mut bays = Vec::new(rt.alloc());
         bays.push(MemRack::new(rt.alloc(), Vec::new(rt.alloc())))?;
         let found = batch_then_alone(rt.alloc(), bays.as_mut_slice(), &shape, stop);
         let error = RunError::Failed;
         assert_eq!(rt;
-            found,
-            Some((BayState::Ended { error }, true)),
+            (told, found),
+            (
+                Some(finished(4, left)),
+                Some((BayState::Ended { error }, true))
+            ),
             "{after} {pick:x} {every}"
         );
     }

@@ -3,6 +3,12 @@
 #![tactic(auto)]
 
 #[cfg(test)]
+mod bodies;
+#[cfg(test)]
 mod control_rows;
 #[cfg(test)]
 mod control_stops;
+#[cfg(test)]
+mod page_rows;
+#[cfg(test)]
+mod stop_cases;

@@ -10,10 +10,10 @@ use bm_forms::Job;
 use bm_memrack::MemRack;
 use bm_named::{bit_reversal, gray};
 use bm_rack::Rack;
-use run_helpers::{INPUT, REVERSED, ran};
+use run_helpers::ran;
 use std::alloc::Global;
 use std::test::Fail;
-use test_helpers::has_disks;
+use test_helpers::{INPUT, ONE_MORE, REVERSED, has_disks};
 
 // What the disks tell of two jobs: nothing loaded, loaded, one of them done, and dropped.
 #[derive(Clone, Copy, Debug, PartialEq, Eq)]
@@ -33,7 +33,7 @@ fn looked_at<R: Rack>(alloc: Global, rack: &mut R, shape: &Shape) -> Option<Told
 {
     let job = Job::Permute(bit_reversal(4));
     let bare = open_job(rack, shape, &job);
-    loaded(alloc, rack, shape, &INPUT)?.ok()?;
+    loaded(alloc, rack, shape, INPUT)?.ok()?;
     let fresh = open_job(rack, shape, &job);
     let early = drop_job(rack);
     ran(alloc, rack, shape, &bit_reversal(4), 2)?.ok()?;
@@ -84,11 +84,11 @@ fn areas_in_pieces(rt: HostRuntime) -> Result<(), Fail> {
     }
     let input = dumped(rt.alloc(), &mut rack, &shape, Area::Input, &[]).ok_or("input")?;
     assert_eq!(rt; input.answer, Ok(()));
-    assert_eq!(rt; input.bytes.as_slice(), INPUT.as_slice());
+    assert_eq!(rt; input.bytes.as_slice(), INPUT);
     assert_eq!(rt; input.pieces.as_slice(), [8usize, 8].as_slice());
     let output = dumped(rt.alloc(), &mut rack, &shape, Area::Two, &[]).ok_or("output")?;
     assert_eq!(rt; output.answer, Ok(()));
-    assert_eq!(rt; output.bytes.as_slice(), REVERSED.as_slice());
+    assert_eq!(rt; output.bytes.as_slice(), REVERSED);
     let part = dumped(rt.alloc(), &mut rack, &shape, Area::Two, &[2]).ok_or("part")?;
     assert_eq!(rt; part.answer, Err(DumpError::SinkFault));
     assert_eq!(rt;
@@ -108,7 +108,7 @@ fn answers<R: Rack>(
     requires { (R.view rack.old).attached ≡ Some (dims_of shape.now) }
     ensures { (R.view rack.new).attached ≡ Some (dims_of shape.now) }
 {
-    loaded(alloc, rack, shape, &INPUT)?.ok()?;
+    loaded(alloc, rack, shape, INPUT)?.ok()?;
     let answer = loaded(alloc, rack, shape, bytes)?;
     let state = open_job(rack, shape, &Job::Permute(bit_reversal(4))).err()?;
     Some((answer, state))
@@ -118,7 +118,6 @@ fn answers<R: Rack>(
 #[test]
 fn inputs_of_any_length(rt: HostRuntime) -> Result<(), Fail> {
     let shape = Shape::new(4, 1, 1, 3, 1).ok().ok_or("shape")?;
-    let bytes = [0u8, 1, 2, 3, 4, 5, 6, 7, 8, 9, 10, 11, 12, 13, 14, 15, 16];
     let rows = [
         (16, Ok(()), OpenError::NoJob),
         (
@@ -138,7 +137,7 @@ fn inputs_of_any_length(rt: HostRuntime) -> Result<(), Fail> {
         if !has_disks(&mut rack, &shape) {
             return Err(Fail::from("disks"));
         }
-        let given = bytes.get(..count).ok_or("count")?;
+        let given = ONE_MORE.get(..count).ok_or("count")?;
         let found = answers(rt.alloc(), &mut rack, &shape, given);
         assert_eq!(rt; found, Some((answer, state)), "{count}");
     }

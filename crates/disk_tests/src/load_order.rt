@@ -4,9 +4,9 @@ use crate::moving::loaded;
 use bm_base::Shape;
 use bm_memrack::MemRack;
 use bm_named::bit_reversal;
-use run_helpers::{Call, INPUT, Recorder, ran};
+use run_helpers::{Call, Recorder, ran};
 use std::test::Fail;
-use test_helpers::has_disks;
+use test_helpers::{INPUT, has_disks};
 
 // A row write to both disks.
 fn row(place: u64) -> Call {
@@ -64,7 +64,7 @@ fn calls_in_order(rt: HostRuntime) -> Result<(), Fail> {
     }
     recorder.forget();
     assert_eq!(rt;
-        loaded(rt.alloc(), &mut recorder, &shape, &INPUT),
+        loaded(rt.alloc(), &mut recorder, &shape, INPUT),
         Some(Ok(()))
     );
     assert_eq!(rt; recorder.calls(), on_new_disks().as_slice());
@@ -73,7 +73,7 @@ fn calls_in_order(rt: HostRuntime) -> Result<(), Fail> {
     }
     recorder.forget();
     assert_eq!(rt;
-        loaded(rt.alloc(), &mut recorder, &shape, &INPUT),
+        loaded(rt.alloc(), &mut recorder, &shape, INPUT),
         Some(Ok(()))
     );
     assert_eq!(rt; recorder.calls(), over_a_job().as_slice());

@@ -9,8 +9,6 @@ mod drills;
 #[cfg(test)]
 mod large_drill;
 #[cfg(test)]
-mod loading;
-#[cfg(test)]
 mod session_rows;
 #[cfg(test)]
 mod transform_rows;

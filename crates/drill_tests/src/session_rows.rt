@@ -3,7 +3,6 @@
 ghost use Rattle.std.specs.Prelude.{◌≡◌, ◌^◌, ◌<◌, IsTrue, Some, length};
 ghost use Rattle.bm_base.specs.Shape.{dims_of};
 
-use crate::loading::has_loaded;
 use bm_base::{SessionsReport, Shape, Stop};
 use bm_bufs::Bufs;
 use bm_drill::run_sessions;
@@ -13,9 +12,10 @@ use bm_job::run_job;
 use bm_memrack::MemRack;
 use bm_named::bit_reversal;
 use bm_rack::StopRack;
-use run_helpers::{INPUT, PICKS, REVERSED, holds, is_job};
+use run_helpers::{PICKS, has_loaded, holds, is_job};
 use std::alloc::Global;
 use std::test::Fail;
+use test_helpers::{INPUT, REVERSED};
 
 // What sessions tell, and whether the records are reversed and the input is as before.
 type Outcome = (SessionsReport, bool);
@@ -41,7 +41,7 @@ fn sessions_of<R: StopRack>(
         return None;
     };
     let mut bufs = Bufs::new(alloc, &shape).ok()?;
-    if !has_loaded(rack, &shape, &INPUT) {
+    if !has_loaded(rack, &shape, INPUT) {
         return None;
     }
     let job = Job::Permute(map);
@@ -59,7 +59,7 @@ fn sessions_of<R: StopRack>(
         return None;
     }
     let report = run_sessions(rack, &shape, &job, &plan, &mut bufs, stops, every).ok()?;
-    let whole = holds(alloc, rack, &shape, report.passes, &REVERSED);
+    let whole = holds(alloc, rack, &shape, report.passes, REVERSED);
     Some((report, whole))
 }
 

@@ -3,7 +3,6 @@
 ghost use Rattle.std.specs.Prelude.{◌≡◌, ◌^◌, ◌<◌, IsTrue, Some, length};
 ghost use Rattle.bm_base.specs.Shape.{dims_of};
 
-use crate::loading::has_loaded;
 use bm_base::{Area, SessionsReport, Shape, Stop};
 use bm_bufs::Bufs;
 use bm_drill::run_sessions;
@@ -11,6 +10,7 @@ use bm_forms::{Job, pass_limit};
 use bm_memrack::MemRack;
 use bm_rack::StopRack;
 use bm_walsh::walsh_plan;
+use run_helpers::has_loaded;
 use std::alloc::Global;
 use std::test::Fail;
 use test_helpers::{read_area, records_of};

@@ -1,19 +1,11 @@
 //! Calls of a transform from a line of words.
 
 use bm_kind_call::kind_top;
-use bm_memrack::{MemSink, SureSource};
+use bm_memrack::MemSink;
 use bm_rack::{Rack, Source};
-use bm_top::Status;
+use call_helpers::{Answer, line_sink};
 use std::alloc::Global;
-use test_helpers::{text_source, words_of};
-
-/// What the call said: its status, its output, and its line on standard error.
-#[derive(Drop)]
-pub struct Answer {
-    pub status: Status,
-    pub out: MemSink,
-    pub err: MemSink,
-}
+use test_helpers::{bytes_source, text_source, words_of};
 
 /// What a line of words says over these devices. Nothing where memory is refused.
 pub fn said_over<R: Rack, J: Source, S: Source>(
@@ -26,9 +18,9 @@ pub fn said_over<R: Rack, J: Source, S: Source>(
 ) -> Option<Answer> {
     let words = words_of(alloc, line).ok()?;
     let mut out = out;
-    let mut err = MemSink::new(alloc, 64, 7, Vec::new(alloc)).ok()?;
+    let mut err = line_sink(alloc)?;
     let status = kind_top(alloc, &words, job, input, &mut out, &mut err, rack);
-    Some(Answer { status, out, err })
+    Some(Answer::of(status, out, err))
 }
 
 /// What a line of words says of this text and input, with room for so many bytes. Nothing where
@@ -42,7 +34,7 @@ pub fn said<R: Rack>(
     rack: &mut R,
 ) -> Option<Answer> {
     let mut job = text_source(alloc, text)?;
-    let mut input = SureSource::new(input.to_vec(alloc).ok()?);
+    let mut input = bytes_source(alloc, input)?;
     let out = MemSink::new(alloc, room, 1 << 10, Vec::new(alloc)).ok()?;
     said_over(alloc, line, &mut job, &mut input, out, rack)
 }

@@ -8,7 +8,7 @@ use bm_rack::Rack;
 use bm_top::Status;
 use std::alloc::Global;
 use std::test::Fail;
-use test_helpers::{records_of, text_with};
+use test_helpers::{DONE, records_of, text_with};
 
 // The lines of the map, four numbers, and what becomes of them.
 const ROWS: [(&str, [u64; 4], [u64; 4]); 7] = [
@@ -40,7 +40,7 @@ fn makes(alloc: Global, map: &str, numbers: &[u64; 4], wanted: &[u64; 4]) -> Opt
     Some(
         said.status == Status::Done
             && said.out.taken() == wanted.as_slice()
-            && said.err.taken() == b"bmmc: done\n".as_slice()
+            && said.err.taken() == DONE.as_bytes()
             && rack.rows() == 40,
     )
 }

@@ -2,12 +2,12 @@
 
 use crate::calling::{FOUR, said, said_over};
 use bm_kind_call::kind_job;
-use bm_memrack::{MemRack, MemSink, MemSource, SureRack, SureSource};
+use bm_memrack::{MemRack, MemSink, MemSource, SureRack};
 use bm_rack::Rack;
 use bm_top::Status;
 use std::alloc::Global;
 use std::test::Fail;
-use test_helpers::{records_of, text_source, text_with, words_of};
+use test_helpers::{records_of, text_with, words_of};
 
 const SUMS: &str = "kind = \"sums\"\nset = [0, 1]";
 
@@ -49,13 +49,13 @@ fn is_named(alloc: Global, line: &str, job: Option<&str>) -> Option<bool> {
 
 #[test]
 fn the_word_of_the_job(rt: HostRuntime) -> Result<(), Fail> {
-    let alloc = rt.alloc();
-    assert_eq!(rt;
-        is_named(alloc, "kind job.toml", Some("job.toml")),
-        Some(true)
-    );
-    assert_eq!(rt; is_named(alloc, "kind", None), Some(true));
-    assert_eq!(rt; is_named(alloc, "run job.toml", None), Some(true));
+    let a = rt.alloc();
+    let named = [
+        is_named(a, "kind job.toml", Some("job.toml")),
+        is_named(a, "kind", None),
+        is_named(a, "run job.toml", None),
+    ];
+    assert_eq!(rt; named, [Some(true); 3]);
     Ok(())
 }
 
@@ -117,15 +117,8 @@ fn goes_on(alloc: Global) -> Option<Status> {
         return None;
     }
     let reversal = text_with(alloc, FOUR, "kind = \"bit-reversal\"")?;
-    let words = words_of(alloc, "run job").ok()?;
-    let mut job = text_source(alloc, reversal.as_str())?;
-    let mut none = SureSource::new(Vec::new(alloc));
-    let mut out = MemSink::new(alloc, 512, 64, Vec::new(alloc)).ok()?;
-    let mut err = MemSink::new(alloc, 64, 64, Vec::new(alloc)).ok()?;
-    let status = bm_top::bmmc_top(
-        alloc, &words, &mut job, &mut none, &mut out, &mut err, &mut rack,
-    );
-    Some(status)
+    let ran = call_helpers::said(alloc, "run job", reversal.as_str(), &[], &mut rack)?;
+    Some(ran.status)
 }
 
 #[test]

@@ -3,12 +3,13 @@
 ghost use Rattle.std.specs.Prelude.{◌≡◌, IfSome, length};
 
 use crate::calling::said;
-use bm_memrack::{MemSink, SureRack, SureSource};
-use bm_top::{Status, bmmc_top};
+use bm_memrack::{MemSink, SureRack};
+use bm_top::Status;
+use call_helpers::said_over;
 use itoa::Buffer;
 use std::alloc::Global;
 use std::test::Fail;
-use test_helpers::{draw, records_of, text_source, words_of};
+use test_helpers::{bytes_source, draw, records_of, text_source};
 
 // 4096 numbers, 32 in memory, on two disks in blocks of two.
 const SHAPE: &str = "[shape]\nn = 12\nb = 1\nd = 1\nm = 5\nwidth = 8\n";
@@ -65,22 +66,14 @@ fn undoes(alloc: Global, one: &str, other: &str, seed: u64) -> Option<bool> {
 
 #[test]
 fn kinds_that_undo(rt: HostRuntime) -> Result<(), Fail> {
+    let a = rt.alloc();
     for seed in 1..6u64 {
-        assert_eq!(rt;
-            undoes(rt.alloc(), "sums", "differences", seed),
-            Some(true),
-            "{seed}"
-        );
-        assert_eq!(rt;
-            undoes(rt.alloc(), "differences", "sums", seed),
-            Some(true),
-            "{seed}"
-        );
-        assert_eq!(rt;
-            undoes(rt.alloc(), "xors", "xors", seed),
-            Some(true),
-            "{seed}"
-        );
+        let undone = [
+            undoes(a, "sums", "differences", seed),
+            undoes(a, "differences", "sums", seed),
+            undoes(a, "xors", "xors", seed),
+        ];
+        assert_eq!(rt; undone, [Some(true); 3], "{seed}");
     }
     Ok(())
 }
@@ -140,19 +133,15 @@ fn transformed(alloc: Global, input: &[u8]) -> Option<Vec<u8>> {
     let mut text = String::new(alloc);
     text.push_str(SHAPE).ok()?;
     text.push_str("[map]\nkind = \"walsh\"\n").ok()?;
-    let words = words_of(alloc, "carry job").ok()?;
     let mut job = text_source(alloc, text.as_str())?;
-    let mut input = SureSource::new(input.to_vec(alloc).ok()?);
-    let mut out = MemSink::new(alloc, BYTES, 1 << 10, Vec::new(alloc)).ok()?;
-    let mut err = MemSink::new(alloc, 64, 7, Vec::new(alloc)).ok()?;
+    let mut input = bytes_source(alloc, input)?;
+    let out = MemSink::new(alloc, BYTES, 1 << 10, Vec::new(alloc)).ok()?;
     let mut rack = SureRack::new(alloc);
-    let status = bmmc_top(
-        alloc, &words, &mut job, &mut input, &mut out, &mut err, &mut rack,
-    );
-    if status != Status::Done {
+    let carried = said_over(alloc, "carry job", &mut job, &mut input, out, &mut rack)?;
+    if carried.status != Status::Done {
         return None;
     }
-    out.taken().to_vec(alloc).ok()
+    carried.out.taken().to_vec(alloc).ok()
 }
 
 // Whether the signed sums over all bits are the Walsh-Hadamard transform.

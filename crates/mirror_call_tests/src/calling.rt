@@ -1,12 +1,13 @@
 //! Calls over a mirror from a line of words.
 
-use bm_memrack::{MemSink, SureSource};
+use bm_memrack::MemSink;
 use bm_mirror::Mirror;
 use bm_mirror_call::mirror_top;
 use bm_rack::{Rack, Sink, Source};
 use bm_top::Status;
+use call_helpers::{line_sink, output_sink};
 use std::alloc::Global;
-use test_helpers::{text_source, words_of};
+use test_helpers::{bytes_source, text_source, words_of};
 
 /// What a command said over two racks: its status, its output, its lines on standard error, and the
 /// racks.
@@ -47,7 +48,7 @@ pub fn said_over<L: Rack + Drop, G: Rack + Drop, J: Source, S: Source>(
     right: G,
 ) -> Option<Answer<L, G>> {
     let words = words_of(alloc, line).ok()?;
-    let mut out = MemSink::new(alloc, 512, 64, Vec::new(alloc)).ok()?;
+    let mut out = output_sink(alloc, 512)?;
     let mut err = err;
     let (status, left, right) = run_over(
         alloc, &words, job, input, &mut out, &mut err, left, right,
@@ -72,7 +73,7 @@ pub fn said<L: Rack + Drop, G: Rack + Drop>(
     right: G,
 ) -> Option<Answer<L, G>> {
     let mut job = text_source(alloc, job)?;
-    let mut input = SureSource::new(input.to_vec(alloc).ok()?);
-    let err = MemSink::new(alloc, 64, 7, Vec::new(alloc)).ok()?;
+    let mut input = bytes_source(alloc, input)?;
+    let err = line_sink(alloc)?;
     said_over(alloc, line, &mut job, &mut input, err, left, right)
 }

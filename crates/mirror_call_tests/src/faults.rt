@@ -1,11 +1,12 @@
 //! A call that fails on one side, and on both.
 
 use crate::calling::said;
-use crate::texts::{DONE_BOTH, DONE_LEFT, DONE_RIGHT, FAULT_LEFT, FAULT_RIGHT, INPUT, REVERSED};
 use bm_top::Status;
 use std::alloc::Global;
 use std::test::Fail;
-use test_helpers::{REVERSAL, rack_of};
+use test_helpers::{
+    DONE_BOTH, DONE_LEFT, DONE_RIGHT, FAULT_LEFT, FAULT_RIGHT, INPUT, REVERSAL, REVERSED, rack_of,
+};
 
 // Whether this call of a `carry` reads a row or a page. Of its 62 calls the first two make the disks
 // and attach them, 11 load, 36 run the job and 13 dump its records.

@@ -12,5 +12,3 @@ mod refusals;
 mod sessions;
 #[cfg(test)]
 mod stops;
-#[cfg(test)]
-mod texts;

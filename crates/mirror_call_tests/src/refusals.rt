@@ -1,13 +1,14 @@
 //! Words that are no command over a mirror, job sources that fail, and sinks that fail.
 
 use crate::calling::{said, said_over};
-use crate::texts::INPUT;
 use bm_memrack::{MemSink, MemSource, SureRack, SureSource};
 use bm_mirror_call::mirror_job;
 use bm_top::Status;
 use std::alloc::Global;
 use std::test::Fail;
-use test_helpers::{REVERSAL, rack_of, text_source, words_of};
+use test_helpers::{
+    DONE_BOTH, FLIPPED, INPUT, REVERSAL, bytes_source, rack_of, text_source, words_of,
+};
 
 const NO_WORDS: [&str; 8] = [
     "mirror",
@@ -68,7 +69,7 @@ fn the_word_of_the_job(rt: HostRuntime) -> Result<(), Fail> {
 // The lines of a flip, which has no job: its source is not asked.
 fn flipped(alloc: Global) -> Option<(Status, bool)> {
     let mut job = MemSource::new(Vec::new(alloc), 8, [1].to_vec(alloc).ok()?);
-    let mut input = SureSource::new(INPUT.to_vec(alloc).ok()?);
+    let mut input = bytes_source(alloc, INPUT)?;
     let err = MemSink::new(alloc, 64, 64, Vec::new(alloc)).ok()?;
     let said = said_over(
         alloc,
@@ -79,11 +80,9 @@ fn flipped(alloc: Global) -> Option<(Status, bool)> {
         SureRack::new(alloc),
         SureRack::new(alloc),
     )?;
-    let want = [15, 14, 13, 12, 11, 10, 9, 8, 7, 6, 5, 4, 3, 2, 1, 0];
     Some((
         said.status,
-        said.out.taken() == want.as_slice()
-            && said.err.taken() == b"bmmc: done\nsides left right\n".as_slice(),
+        said.out.taken() == FLIPPED && said.err.taken() == DONE_BOTH.as_bytes(),
     ))
 }
 
@@ -100,7 +99,7 @@ fn job_fault(alloc: Global, call: u64) -> Option<(Status, bool)> {
         64,
         [call].to_vec(alloc).ok()?,
     );
-    let mut input = SureSource::new(INPUT.to_vec(alloc).ok()?);
+    let mut input = bytes_source(alloc, INPUT)?;
     let err = MemSink::new(alloc, 64, 64, Vec::new(alloc)).ok()?;
     let said = said_over(
         alloc,
@@ -135,7 +134,7 @@ fn long_text(alloc: Global, size: usize) -> Option<(Status, bool)> {
         text.push(b'\n').ok()?;
     }
     let mut job = SureSource::new(text);
-    let mut input = SureSource::new(INPUT.to_vec(alloc).ok()?);
+    let mut input = bytes_source(alloc, INPUT)?;
     let err = MemSink::new(alloc, 64, 64, Vec::new(alloc)).ok()?;
     let said = said_over(
         alloc,
@@ -160,7 +159,7 @@ fn long_texts(rt: HostRuntime) -> Result<(), Fail> {
 // What is written of the lines where this write of them fails, four bytes at a time.
 fn cut(alloc: Global, call: u64, want: &[u8]) -> Option<bool> {
     let mut job = text_source(alloc, REVERSAL)?;
-    let mut input = SureSource::new(INPUT.to_vec(alloc).ok()?);
+    let mut input = bytes_source(alloc, INPUT)?;
     let err = MemSink::new(alloc, 64, 4, [call].to_vec(alloc).ok()?).ok()?;
     let said = said_over(
         alloc,

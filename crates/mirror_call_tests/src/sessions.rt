@@ -1,13 +1,11 @@
 //! Commands over a mirror one after another, and the one side alone after them.
 
 use crate::calling::said;
-use crate::texts::{DONE_BOTH, INPUT, REVERSED};
-use bm_memrack::{MemSink, SureSource};
 use bm_rack::Rack;
-use bm_top::{Status, bmmc_top};
+use bm_top::Status;
 use std::alloc::Global;
 use std::test::Fail;
-use test_helpers::{REVERSAL, rack_of, text_source, words_of};
+use test_helpers::{DONE_BOTH, INPUT, REVERSAL, REVERSED, rack_of};
 
 /// What a command without a mirror says over one rack: its status, and whether this is its output.
 pub fn alone<R: Rack>(
@@ -18,15 +16,8 @@ pub fn alone<R: Rack>(
     rack: &mut R,
     want: &[u8],
 ) -> Option<(Status, bool)> {
-    let words = words_of(alloc, line).ok()?;
-    let mut job = text_source(alloc, job)?;
-    let mut input = SureSource::new(input.to_vec(alloc).ok()?);
-    let mut out = MemSink::new(alloc, 512, 64, Vec::new(alloc)).ok()?;
-    let mut err = MemSink::new(alloc, 64, 64, Vec::new(alloc)).ok()?;
-    let status = bmmc_top(
-        alloc, &words, &mut job, &mut input, &mut out, &mut err, rack,
-    );
-    Some((status, out.taken() == want))
+    let said = call_helpers::said(alloc, line, job, input, rack)?;
+    Some((said.status, said.out.taken() == want))
 }
 
 // A job on the left side that is loaded there, done over a mirror whose right one is empty, and

@@ -1,13 +1,12 @@
 //! A side that stops, and commands that go on from the other.
 
 use crate::calling::{Answer, said};
-use crate::texts::{DONE_BOTH, INPUT, REVERSED};
 use bm_memrack::MemRack;
 use bm_rack::StopRack;
 use bm_top::Status;
 use std::alloc::Global;
 use std::test::Fail;
-use test_helpers::{REVERSAL, rack_of};
+use test_helpers::{DONE_BOTH, INPUT, REVERSAL, REVERSED, rack_of};
 
 // What a stop leaves of what was not made durable: every other unit in its old form.
 const TORN: u64 = 0x5555_5555_5555_5555;

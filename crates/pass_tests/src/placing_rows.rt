@@ -183,25 +183,28 @@ fn every_load_in_two_steps(rt: HostRuntime) -> Result<(), Fail> {
     Ok(())
 }
 
-// What is chosen for a placing, by today's bounds of `best_split`: the bits of a run and of a tile. A
-// bit reversal has tiles of twice the bits of a run, up to its own.
+// What is chosen for a placing by a map, by today's bounds of `best_split`: the bits of a run and of a
+// tile.
+fn choice_of(map: &Affine, width: u16, room: u8) -> Option<(u8, u8)> {
+    let placing = Placing {
+        a: map.a,
+        plus: map.c,
+        width,
+    };
+    best_split(&placing, room).map(|split| (split.inner.low, split.inner.tile))
+}
+
+// The room of a row, and the pages that records go to. A bit reversal has tiles of twice the bits of a
+// run, up to its own.
 #[test]
-fn choices_of_steps(rt: HostRuntime) -> Result<(), Fail> {
-    let far = bits(
-        18,
-        &[17, 1, 2, 3, 4, 5, 6, 7, 8, 9, 10, 11, 12, 13, 14, 15, 16, 0],
-    )?;
-    let near = bits(
-        18,
-        &[3, 1, 2, 0, 4, 5, 6, 7, 8, 9, 10, 11, 12, 13, 14, 15, 16, 17],
-    )?;
+fn choices_by_room_and_pages(rt: HostRuntime) -> Result<(), Fail> {
     let interleaved = bits(
         21,
         &[
             0, 11, 1, 12, 2, 13, 3, 14, 4, 15, 5, 16, 6, 17, 7, 18, 8, 19, 9, 20, 10,
         ],
     )?;
-    let rows: [(Affine, u16, u8, Option<(u8, u8)>); 30] = [
+    let rows: [(Affine, u16, u8, Option<(u8, u8)>); 12] = [
         // A tile of 64 KiB has 2^13 records, also where there is room for more.
         (bit_reversal(18), 8, 16, Some((6, 12))),
         (bit_reversal(18), 8, 13, Some((6, 12))),
@@ -217,15 +220,44 @@ fn choices_of_steps(rt: HostRuntime) -> Result<(), Fail> {
         // A run has at least 2^3 records, so a tile has at least 2^6.
         (bit_reversal(18), 8, 6, Some((3, 6))),
         (bit_reversal(18), 8, 5, None),
-        // One bit leaves the line for another line of the 2^14 records of 128 KiB, or for afar.
-        (near, 8, 13, None),
-        (far, 8, 13, Some((7, 8))),
         // 32 KiB go to 2^6 pages, but each 32 neighbours stay in one.
         (interleaved, 8, 13, None),
-        // Local maps.
-        (identity(18), 8, 13, None),
-        (gray(18), 8, 13, None),
-        (inverse_gray(18), 8, 13, None),
+    ];
+    for (map, width, room, want) in rows {
+        let found = choice_of(&map, width, room);
+        assert_eq!(rt; found, want, "{} bits, width {width} room {room}", map.a.n);
+    }
+    Ok(())
+}
+
+// One bit leaves the line for another line of the 2^14 records of 128 KiB, or for afar; and local maps.
+#[test]
+fn choices_by_distance(rt: HostRuntime) -> Result<(), Fail> {
+    let far = bits(
+        18,
+        &[17, 1, 2, 3, 4, 5, 6, 7, 8, 9, 10, 11, 12, 13, 14, 15, 16, 0],
+    )?;
+    let near = bits(
+        18,
+        &[3, 1, 2, 0, 4, 5, 6, 7, 8, 9, 10, 11, 12, 13, 14, 15, 16, 17],
+    )?;
+    let rows: [(Affine, Option<(u8, u8)>); 5] = [
+        (near, None),
+        (far, Some((7, 8))),
+        (identity(18), None),
+        (gray(18), None),
+        (inverse_gray(18), None),
+    ];
+    for (map, want) in rows {
+        assert_eq!(rt; choice_of(&map, 8, 13), want, "to {}", map.a.apply(1));
+    }
+    Ok(())
+}
+
+// How many bytes a load has, and how wide its records are.
+#[test]
+fn choices_by_size_and_width(rt: HostRuntime) -> Result<(), Fail> {
+    let rows: [(Affine, u16, u8, Option<(u8, u8)>); 13] = [
         // 1 MiB, and less.
         (bit_reversal(17), 8, 13, Some((6, 12))),
         (bit_reversal(17), 7, 13, None),
@@ -245,12 +277,7 @@ fn choices_of_steps(rt: HostRuntime) -> Result<(), Fail> {
         (bit_reversal(21), 1, 9, None),
     ];
     for (map, width, room, want) in rows {
-        let placing = Placing {
-            a: map.a,
-            plus: map.c,
-            width,
-        };
-        let found = best_split(&placing, room).map(|split| (split.inner.low, split.inner.tile));
+        let found = choice_of(&map, width, room);
         assert_eq!(rt; found, want, "{} bits, width {width} room {room}", map.a.n);
     }
     Ok(())

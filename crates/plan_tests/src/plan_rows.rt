@@ -15,10 +15,7 @@ use bm_pass::run_pass;
 use bm_rack::Rack;
 use std::alloc::Global;
 use std::test::Fail;
-use test_helpers::{areas_of, has_disks, read_area, write_area};
-
-// The bytes 0 to 15.
-const INPUT: [u8; 16] = [0, 1, 2, 3, 4, 5, 6, 7, 8, 9, 10, 11, 12, 13, 14, 15];
+use test_helpers::{GRAYED, INPUT, REVERSED, areas_of, has_disks, read_area, write_area};
 
 // Does the passes of a plan in order, where no call fails.
 fn has_run<R: Rack>(rack: &mut R, shape: &Shape, plan: &Plan, bufs: &mut Bufs) -> bool
@@ -55,44 +52,40 @@ fn planned(alloc: Global, shape: &Shape, map: &Affine, input: &[u8]) -> Option<(
     Some((plan.len(), bytes))
 }
 
-// The number of passes of each map, and the permuted list of its records of one byte.
+// The number of passes of each map, and the permuted list of its sixteen records of one byte, or four.
 #[test]
-fn plans_of_sixteen_records(rt: HostRuntime) -> Result<(), Fail> {
-    let reversed = [0, 8, 4, 12, 2, 10, 6, 14, 1, 9, 5, 13, 3, 11, 7, 15];
-    let rows: [((u8, u8, u8, u8), Affine, u16, [u8; 16]); 7] = [
+fn plans_of_small_maps(rt: HostRuntime) -> Result<(), Fail> {
+    let by_rows = from_rows(4, &[1, 2, 4, 10])?;
+    let rows: [((u8, u8, u8, u8), Affine, u16, &[u8]); 8] = [
         ((4, 1, 1, 3), identity(4), 1, INPUT),
-        ((4, 1, 1, 3), bit_reversal(4), 2, reversed),
+        ((4, 1, 1, 3), bit_reversal(4), 2, REVERSED),
         (
             (4, 1, 1, 3),
-            from_rows(4, &[1, 2, 4, 10])?,
+            by_rows,
             1,
-            [0, 1, 10, 11, 4, 5, 14, 15, 8, 9, 2, 3, 12, 13, 6, 7],
+            &[0, 1, 10, 11, 4, 5, 14, 15, 8, 9, 2, 3, 12, 13, 6, 7],
         ),
-        (
-            (4, 1, 1, 3),
-            gray(4),
-            1,
-            [0, 1, 3, 2, 7, 6, 4, 5, 15, 14, 12, 13, 8, 9, 11, 10],
-        ),
+        ((4, 1, 1, 3), gray(4), 1, GRAYED),
         (
             (4, 1, 1, 3),
             transpose(4, 2),
             2,
-            [0, 4, 8, 12, 1, 5, 9, 13, 2, 6, 10, 14, 3, 7, 11, 15],
+            &[0, 4, 8, 12, 1, 5, 9, 13, 2, 6, 10, 14, 3, 7, 11, 15],
         ),
-        ((4, 1, 0, 2), bit_reversal(4), 3, reversed),
-        ((4, 1, 1, 4), bit_reversal(4), 1, reversed),
+        ((4, 1, 0, 2), bit_reversal(4), 3, REVERSED),
+        ((4, 1, 1, 4), bit_reversal(4), 1, REVERSED),
+        ((2, 0, 0, 1), bit_reversal(2), 2, &[0, 2, 1, 3]),
     ];
     for ((n, b, d, m), map, passes, want) in rows {
         let shape = Shape::new(n, b, d, m, 1).ok().ok_or("shape")?;
-        let (count, bytes) = planned(rt.alloc(), &shape, &map, &INPUT).ok_or("plan")?;
-        assert_eq!(rt; count, passes, "b {b} d {d} m {m}");
-        assert_eq!(rt; bytes.as_slice(), want.as_slice(), "b {b} d {d} m {m}");
+        let input = INPUT.get(..want.len()).ok_or("input")?;
+        let (count, bytes) = planned(rt.alloc(), &shape, &map, input).ok_or("plan")?;
+        assert_eq!(rt;
+            (count, bytes.as_slice() == want),
+            (passes, true),
+            "n {n} b {b} d {d} m {m}"
+        );
     }
-    let shape = Shape::new(2, 0, 0, 1, 1).ok().ok_or("shape")?;
-    let (count, bytes) = planned(rt.alloc(), &shape, &bit_reversal(2), &INPUT[..4]).ok_or("plan")?;
-    assert_eq!(rt; count, 2);
-    assert_eq!(rt; bytes.as_slice(), [0u8, 2, 1, 3].as_slice());
     Ok(())
 }
 

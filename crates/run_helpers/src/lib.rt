@@ -7,7 +7,5 @@ mod runs;
 mod slates;
 
 pub use recorder::{Call, Recorder};
-pub use runs::{
-    GRAYED, INPUT, PICKS, REVERSED, has_loaded, holds, is_attached, plan_of, ran, report,
-};
+pub use runs::{PICKS, has_loaded, holds, plan_of, ran, report};
 pub use slates::{Said, Step, has_made, have_made, is_job};

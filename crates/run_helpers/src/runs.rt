@@ -14,18 +14,9 @@ use bm_factor::factor;
 use bm_forms::{Job, Plan};
 use bm_gf2::Affine;
 use bm_job::{RunError, run_job};
-use bm_rack::{Found, Rack};
+use bm_rack::Rack;
 use std::alloc::Global;
-use test_helpers::{areas_of, has_disks, read_area, write_area};
-
-/// The bytes 0 to 15.
-pub const INPUT: [u8; 16] = [0, 1, 2, 3, 4, 5, 6, 7, 8, 9, 10, 11, 12, 13, 14, 15];
-
-/// The bytes 0 to 15, with the bits of each address reversed.
-pub const REVERSED: [u8; 16] = [0, 8, 4, 12, 2, 10, 6, 14, 1, 9, 5, 13, 3, 11, 7, 15];
-
-/// The bytes 0 to 15, with the one at x moved to x XOR x / 2.
-pub const GRAYED: [u8; 16] = [0, 1, 3, 2, 7, 6, 4, 5, 15, 14, 12, 13, 8, 9, 11, 10];
+use test_helpers::{INPUT, areas_of, has_disks, read_area, write_area};
 
 /// What a stop leaves of each unit that is not durable: what stands, zeros, ones, or the first half.
 pub const PICKS: [u64; 4] = [
@@ -35,23 +26,14 @@ pub const PICKS: [u64; 4] = [
     0xFFFF_FFFF_FFFF_FFFF,
 ];
 
-/// Attaches the disks of a shape, where disks of its dims stand.
-pub fn is_attached<R: Rack>(rack: &mut R, shape: &Shape) -> bool
-    ensures { IsTrue result → (R.view rack.new).attached ≡ Some (dims_of shape.now) }
-{
-    match rack.attach(&shape.dims()) {
-        Ok(Found::Ready) => true,
-        _ => false,
-    }
-}
-
 /// Makes the disks of a shape, writes the input, and opens the load gate: on two disks in blocks of
-/// two, eight records in a load, ten device calls.
-pub fn has_loaded<R: Rack>(rack: &mut R, shape: &Shape) -> bool
-    ensures { IsTrue result → (R.view rack.new).attached ≡ Some (dims_of shape.now) }
+/// two, with sixteen records of a byte and eight in a load, ten device calls.
+pub fn has_loaded<R: Rack>(rack: &mut R, shape: &Shape, bytes: &[u8]) -> bool
+    ensures attached { IsTrue result → (R.view rack.new).attached ≡ Some (dims_of shape.now) }
+    ensures steady { IsTrue (R.view rack.old).steady → IsTrue (R.view rack.new).steady }
 {
     has_disks(rack, shape)
-        && write_area(rack, shape, Area::Input, &INPUT)
+        && write_area(rack, shape, Area::Input, bytes)
         && open_load(rack, shape).is_ok()
 }
 
@@ -108,8 +90,7 @@ pub fn holds<R: Rack>(
         read_area(alloc, rack, shape, last),
         read_area(alloc, rack, shape, Area::Input),
     ) {
-        (Some(found), Some(input)) => found.as_slice() == output
-            && input.as_slice() == INPUT.as_slice(),
+        (Some(found), Some(input)) => found.as_slice() == output && input.as_slice() == INPUT,
         _ => false,
     }
 }

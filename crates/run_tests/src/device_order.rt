@@ -5,6 +5,7 @@ use bm_memrack::MemRack;
 use bm_named::bit_reversal;
 use run_helpers::{Call, Recorder, has_loaded, ran, report};
 use std::test::Fail;
+use test_helpers::INPUT;
 
 // A call as the order names it: a row that is read by its place, one that is written by its area.
 #[derive(Clone, Copy, Debug, PartialEq, Eq)]
@@ -137,7 +138,7 @@ fn calls_in_order(rt: HostRuntime) -> Result<(), Fail> {
     for (every, want) in orders {
         let rack = MemRack::new(rt.alloc(), Vec::new(rt.alloc()));
         let mut recorder = Recorder::new(rt.alloc(), rack);
-        if !has_loaded(&mut recorder, &shape) {
+        if !has_loaded(&mut recorder, &shape, INPUT) {
             return Err(Fail::from("disks"));
         }
         recorder.forget();

@@ -10,3 +10,5 @@ mod run_rows;
 mod run_stops;
 #[cfg(test)]
 mod run_transform;
+#[cfg(test)]
+mod turn_rows;

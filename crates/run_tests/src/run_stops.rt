@@ -9,9 +9,10 @@ use bm_job::RunError;
 use bm_memrack::MemRack;
 use bm_named::bit_reversal;
 use bm_rack::StopRack;
-use run_helpers::{PICKS, REVERSED, has_loaded, holds, ran, report};
+use run_helpers::{PICKS, has_loaded, holds, ran, report};
 use std::alloc::Global;
 use std::test::Fail;
+use test_helpers::{INPUT, REVERSED};
 
 // The device calls of a new run in order: s is a sync, p a page call, r a row call. G is the write
 // of a gate that shows loads to be moved; the sync after it makes it durable.
@@ -130,14 +131,11 @@ fn run_twice<R: StopRack>(
     }
     let answer = ran(alloc, rack, shape, map, every)?;
     let first = rack.rows().checked_sub(before)?;
-    match stops {
-        Stops::Never => {}
-        Stops::Once { pick, .. } => {
-            if answer.is_err() {
-                rack.restart(pick)
-            } else {
-                rack.stop_never()
-            }
+    if let Stops::Once { pick, .. } = stops {
+        if answer.is_err() {
+            rack.restart(pick)
+        } else {
+            rack.stop_never()
         }
     }
     let (restarts, last) = match answer {
@@ -151,7 +149,7 @@ fn run_twice<R: StopRack>(
         first,
         rows,
         last,
-        holds: holds(alloc, rack, shape, last.passes, &REVERSED),
+        holds: holds(alloc, rack, shape, last.passes, REVERSED),
     })
 }
 
@@ -165,7 +163,7 @@ fn run_on_disks(
 ) -> Option<Outcome> {
     let shape = Shape::new(4, 1, 1, 3, 1).ok()?;
     let mut rack = MemRack::new(alloc, faults);
-    if !has_loaded(&mut rack, &shape) {
+    if !has_loaded(&mut rack, &shape, INPUT) {
         return None;
     }
     run_twice(

@@ -21,23 +21,30 @@ pub fn areas_of(i: u16) -> (Area, Area)
     }
 }
 
-/// Makes the disks of a shape and attaches them.
-pub fn has_disks<R: Rack>(rack: &mut R, shape: &Shape) -> bool
-    ensures { IsTrue result → (R.view rack.new).attached ≡ Some (dims_of shape.now) }
+/// Attaches the disks of a shape, where disks of its dims stand.
+pub fn is_attached<R: Rack>(rack: &mut R, shape: &Shape) -> bool
+    ensures attached { IsTrue result → (R.view rack.new).attached ≡ Some (dims_of shape.now) }
+    ensures steady { IsTrue (R.view rack.old).steady → IsTrue (R.view rack.new).steady }
 {
-    if rack.create(&shape.dims()).is_err() {
-        return false;
-    }
     match rack.attach(&shape.dims()) {
         Ok(Found::Ready) => true,
         _ => false,
     }
 }
 
+/// Makes the disks of a shape and attaches them.
+pub fn has_disks<R: Rack>(rack: &mut R, shape: &Shape) -> bool
+    ensures attached { IsTrue result → (R.view rack.new).attached ≡ Some (dims_of shape.now) }
+    ensures steady { IsTrue (R.view rack.old).steady → IsTrue (R.view rack.new).steady }
+{
+    rack.create(&shape.dims()).is_ok() && is_attached(rack, shape)
+}
+
 /// Writes an area, where the bytes are those of its loads and no call fails.
 pub fn write_area<R: Rack>(rack: &mut R, shape: &Shape, area: Area, bytes: &[u8]) -> bool
     requires { (R.view rack.old).attached ≡ Some (dims_of shape.now) }
-    ensures { (R.view rack.new).attached ≡ Some (dims_of shape.now) }
+    ensures attached { (R.view rack.new).attached ≡ Some (dims_of shape.now) }
+    ensures steady { IsTrue (R.view rack.old).steady → IsTrue (R.view rack.new).steady }
 {
     let mut rest = bytes;
     for load in 0..shape.loads() {

@@ -1,7 +1,7 @@
 use Rattle.std.proofs.Common.{◌≡◌, Some}
 use Rattle.bm_base.specs.Shape.{dims_of}
 use Rattle.bm_bufs.specs.Bufs.{FitsShape}
-use Rattle.run_tests.proofs.run_rows.turns_of.Given as goal
+use Rattle.run_tests.proofs.turn_rows.turns_of.Given as goal
 
 abbrev pub invariant-loop-turn : goal.invariant-loop-turn
 invariant-loop-turn g l = record {
