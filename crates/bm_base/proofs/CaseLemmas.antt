@@ -1,10 +1,9 @@
 -- Choices, answers and counts, as the layers above use them.
-use Rattle.std.proofs.Common.{◌≡◌, ℕ, ◌+◌, ◌≤◌, ◌==◌, true, false, if◌then◌else◌, List, length, drop, Result, Ok, Err, IsOk, IsErr, is_err}
+use Rattle.std.proofs.Common.{◌≡◌, ℕ, ◌+◌, ◌==◌, true, false, if◌then◌else◌, List, length, drop, Result, Ok, Err, IsOk, IsErr, is_err}
 use Rattle.std.proofs.Common.{refl, ◌∙◌, arith}
 use Rattle.std.specs.List.{refill}
 use Rattle.std.proofs.lemmas.Bool.{false≢true, eq-eqb, ne_eqb}
 use Rattle.std.proofs.lemmas.List.{take-append-le, take_all}
-use Rattle.bm_base.specs.Count.{raised}
 
 -- the choice where both numbers are equal
 pub if_same : {A : Type 0} (a b : ℕ) (x y : A) → a ≡ b → (if a == b then x else y) ≡ x
@@ -31,7 +30,3 @@ error_not_ok (Err e) err ok = false≢true ok
 -- a list that was filled up to its length again holds what it was filled with
 pub refill_all : (xs ws : List ℕ) → length ws ≡ length xs → refill (length xs) xs ws ≡ ws
 refill_all xs ws same = take-append-le (length xs) ws (drop (length ws) xs) (omega arith) ∙ take_all (length xs) ws (omega arith)
-
--- a count after two calls
-pub raised_both : (a b c k j total : ℕ) → b ≤ raised a k → c ≤ raised b j → k + j ≤ total → c ≤ raised a total
-raised_both a b c k j total first second room = omega (arith, first, second, room)

@@ -3,5 +3,6 @@ pub mod ClearLemmas
 pub mod RunLemmas
 pub mod StepLemmas
 pub mod TileLemmas
+pub mod TurnLemmas
 pub mod PartLemmas
 pub mod FourLemmas

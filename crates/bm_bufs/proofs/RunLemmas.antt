@@ -8,7 +8,7 @@ use Rattle.std.proofs.lemmas.Nat.{pow_pos, pow-add, mod-mul-add, div-mul-add, sh
 use Rattle.std.proofs.lemmas.Nat.Bits.{bit_at_cat_low}
 use Rattle.std.proofs.lemmas.Bool.{cases_lt}
 use Rattle.std.proofs.Math.Nat.{mod-lt, mod-eq_of_lt, mod-add-div', mul-le-mul_right, add-mul}
-use Rattle.std.proofs.Math.Pow.{shr_lt, pow_mono}
+use Rattle.std.proofs.Math.Pow.{pow_mono}
 use Rattle.bm_base.proofs.ChunkLemmas.{chunk_of_part}
 use Rattle.bm_base.proofs.PowerLemmas.{cut_below}
 use Rattle.bm_gf2.specs.declared.matrix.Matrix.{Matrix}

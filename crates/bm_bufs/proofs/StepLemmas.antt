@@ -1,18 +1,17 @@
 -- Tables of the sums by which images change from one number to the next.
-use Rattle.std.proofs.Common.{◌≡◌, ◌≢◌, ℕ, suc, ◌+◌, ◌-◌, ◌*◌, ◌/◌, ◌%◌, ◌^◌, ◌<◌, ◌≤◌, bit_xor, List, length, slice_index, slice_set}
+use Rattle.std.proofs.Common.{◌≡◌, ◌≢◌, ℕ, suc, ◌+◌, ◌-◌, ◌*◌, ◌^◌, ◌<◌, ◌≤◌, bit_xor, List, length, slice_index, slice_set}
 use Rattle.std.proofs.Common.{get_or-set_same, get_or-set_other, w64, sym, ap, ◌∙◌, arith, ⊎_elim}
 use Rattle.std.specs.Int.{trailing_ones}
-use Rattle.std.specs.Int.Bits.{xor_assoc, xor_self, xor_zero_l, xor_mod, xor_shr, xor_shifted}
-use Rattle.std.proofs.lemmas.Nat.{xor_comm, pow_pos, pow-add, shl-shr}
+use Rattle.std.specs.Int.Bits.{xor_assoc, xor_zero_l, xor_shifted}
+use Rattle.std.proofs.lemmas.Nat.{xor_comm, pow_pos, pow-add}
 use Rattle.std.proofs.lemmas.Nat.Bits.{bit_at-trailing_ones}
 use Rattle.std.proofs.lemmas.Bool.{cases_eq}
-use Rattle.std.proofs.Math.Nat.{mod-add-div', two-pow-succ}
+use Rattle.std.proofs.Math.Nat.{two-pow-succ}
 use Rattle.bm_gf2.specs.Vector.{xor_sum}
 use Rattle.bm_gf2.proofs.VectorLemmas.{xor_same, xor_cancel, xor_sum-xor, xor_sum-pow, xor_sum-none, xor_sum-zero}
 use Rattle.bm_gf2.proofs.StepperLemmas.{xor_next, trailing_place}
 use Rattle.bm_gf2.proofs.ShiftLemmas.{xor_shl}
 use Rattle.bm_bufs.specs.TileMoves.{IsStepTable}
-use Rattle.bm_bufs.proofs.RunLemmas.{first_clear}
 
 -- one 1 more, from the top
 ones_more : (t : ℕ) → 2 ^ (t + 1) - 1 ≡ bit_xor (2 ^ t) (2 ^ t - 1)

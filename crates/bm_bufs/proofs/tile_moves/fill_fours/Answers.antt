@@ -11,7 +11,8 @@ use Rattle.bm_bufs.specs.declared.tile_map.TileMap.{TileMap}
 use Rattle.bm_bufs.proofs.FourLemmas.{row_fits}
 use Rattle.bm_bufs.proofs.RunLemmas.{run_count}
 use Rattle.bm_bufs.proofs.StepLemmas.{has_entry, next_affine}
-use Rattle.bm_bufs.proofs.TileLemmas.{low_below, low_column, four_turn, four_more}
+use Rattle.bm_bufs.proofs.TileLemmas.{low_below, low_column}
+use Rattle.bm_bufs.proofs.TurnLemmas.{four_turn, four_more}
 use Rattle.bm_bufs.proofs.tile_moves.fill_fours.Goals as goal
 
 -- the number that stands before four records

@@ -10,7 +10,8 @@ use Rattle.bm_bufs.specs.declared.tile_map.TileMap.{TileMap}
 use Rattle.bm_bufs.specs.Tiles.{origin}
 use Rattle.bm_bufs.specs.TileMoves.{FillsRun}
 use Rattle.bm_bufs.proofs.StepLemmas.{has_entry, next_sum, next_affine}
-use Rattle.bm_bufs.proofs.TileLemmas.{tile_start, tile_turn, run_room, in_tile, out_of_tile, filled_run, filled_other}
+use Rattle.bm_bufs.proofs.TileLemmas.{tile_start, in_tile, out_of_tile, filled_run, filled_other}
+use Rattle.bm_bufs.proofs.TurnLemmas.{tile_turn, run_room}
 use Rattle.bm_bufs.proofs.tile_moves.fill_tile.Goals as goal
 
 -- a number's place in its tile, as the code reckons it

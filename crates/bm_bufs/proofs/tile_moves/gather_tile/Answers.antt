@@ -9,7 +9,8 @@ use Rattle.std.proofs.Math.Nat.{mul-le-mul_right}
 use Rattle.bm_gf2.specs.Matrix.{image, column}
 use Rattle.bm_bufs.specs.declared.tile_map.TileMap.{TileMap}
 use Rattle.bm_bufs.proofs.StepLemmas.{has_entry, next_sum}
-use Rattle.bm_bufs.proofs.TileLemmas.{tile_start, tile_turn, runs_of_tile, run_of_load, gathered}
+use Rattle.bm_bufs.proofs.TileLemmas.{tile_start, runs_of_tile, gathered}
+use Rattle.bm_bufs.proofs.TurnLemmas.{tile_turn, run_of_load}
 use Rattle.bm_bufs.proofs.tile_moves.gather_tile.Goals as goal
 
 -- the size of a run, as the code reckons it

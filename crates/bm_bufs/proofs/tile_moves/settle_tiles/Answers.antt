@@ -3,7 +3,8 @@ use Rattle.std.proofs.lemmas.Nat.{one_shl}
 use Rattle.std.proofs.lemmas.Bool.{cases_eq}
 use Rattle.bm_bufs.specs.Tiles.{origin}
 use Rattle.bm_bufs.specs.TileMoves.{GathersTile, FillsTile}
-use Rattle.bm_bufs.proofs.TileLemmas.{kept_tile, origin_below, settled}
+use Rattle.bm_bufs.proofs.TileLemmas.{kept_tile, origin_below}
+use Rattle.bm_bufs.proofs.TurnLemmas.{settled}
 use Rattle.bm_bufs.proofs.tile_moves.settle_tiles.Goals as goal
 use Rattle.bm_base.proofs.PowerLemmas.{cut_below}
 
