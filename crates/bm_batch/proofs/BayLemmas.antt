@@ -4,7 +4,6 @@ use Rattle.std.proofs.Common.{◌≤◌, Bool, IsTrue, IsSome, List, Option, Som
 use Rattle.std.proofs.Common.{ap, subst}
 use Rattle.std.proofs.Common.{subst₂, arith}
 use Rattle.std.proofs.lemmas.Bool.{false≢true}
-use Rattle.bm_base.proofs.CaseLemmas.{raised_both}
 use Rattle.bm_base.specs.declared.shape.Shape.{Shape}
 use Rattle.bm_base.specs.Contents.{page_at, page_unit}
 use Rattle.bm_base.specs.Count.{raised, Rose}
@@ -13,6 +12,7 @@ use Rattle.bm_rack.specs.RackView.{RackView, IsWellFormed}
 use Rattle.bm_rack.specs.Frames.{DirtiesOnly}
 use Rattle.bm_rack.specs.Image.{SameInput}
 use Rattle.bm_rack.proofs.FrameLemmas.{DirtiesOnly-trans, Keeps-refl, Keeps-trans, HasCause-later, raised-zero, raised-raised}
+use Rattle.bm_rack.proofs.CallLemmas.{most_same, most_between, most_then}
 use Rattle.bm_control.specs.Bodies.{IsPassBody}
 use Rattle.bm_control.specs.Pages.{pass_body}
 use Rattle.bm_control.specs.Sound.{IsSound}
@@ -25,7 +25,7 @@ use Rattle.bm_job.specs.Follows.{Follows, loads_moved}
 use Rattle.bm_job.specs.Runs.{IsWorkUnit, loads_left, load_rows}
 use Rattle.bm_job.specs.Turns.{SameJob}
 use Rattle.bm_job.proofs.EndLemmas.{turn_complete}
-use Rattle.bm_job.proofs.PaceLemmas.{loads_few}
+use Rattle.bm_job.proofs.LeftLemmas.{loads_few}
 use Rattle.bm_job.proofs.RangeLemmas.{few_passes}
 use Rattle.bm_job.proofs.RunLemmas.{same_input_none, same_input_then, same_job_then}
 use Rattle.bm_job.proofs.WorkUnitLemmas.{body_kept}
@@ -83,8 +83,7 @@ went_none ts tc m slot v well going machine =
       same = same_job_none m;
       further = omega arith;
       moves = λ none. sym (ap (λ (k : ℕ). raised v.moves k) (no_rows m.shape (loads_moved m)) ∙ raised-zero v.moves fits);
-      most = omega (arith, fits);
-      least = omega arith;
+      few = most_same _ _ _ fits refl;
       follows = λ told_stands told_contents follows none. follows;
       sound = λ told_stands told_contents follows. follows.held.sound;
       input = same_input_none m.shape v;
@@ -156,8 +155,6 @@ went_then ts tc m b c u v w going x y =
     let s = m.shape in
     let on = still_going b.state going in
     let mid = x.moves on in
-    let low = x.least in
-    let low2 = y.least in
     let further = x.further in
     let further2 = y.further in
     let rows : load_rows x.next.shape (loads_moved y.next - loads_moved x.next) ≡ load_rows s (loads_moved y.next - loads_moved x.next) =
@@ -171,10 +168,9 @@ went_then ts tc m b c u v w going x y =
           ∙ ap (λ (k : ℕ). raised k (load_rows s (loads_moved y.next - loads_moved x.next))) mid
           ∙ raised-raised u.moves (load_rows s (loads_moved x.next - loads_moved m)) (load_rows s (loads_moved y.next - loads_moved x.next))
           ∙ ap (λ (k : ℕ). raised u.moves k) (rows_then s _ _ _ further further2);
-      most = raised_both u.moves v.moves w.moves (load_rows s (loads_moved x.next - loads_moved m))
-          (load_rows x.next.shape (loads_left x.next)) (load_rows s (loads_left m)) (omega (arith, mid)) y.most
-          (let all = rows_left m x.next x.same further in omega (arith, all));
-      least = omega (arith, low, low2);
+      few = most_then (load_rows s (loads_moved x.next - loads_moved m)) (load_rows x.next.shape (loads_left x.next))
+          (load_rows s (loads_left m)) u.moves v.moves w.moves (let all = rows_left m x.next x.same further in omega (arith, all))
+          (most_between _ _ _ x.few.low (omega (arith, mid))) y.few;
       follows = λ told_stands told_contents follows none. y.follows told_stands told_contents
           (x.follows told_stands told_contents follows on) none;
       sound = λ told_stands told_contents follows. y.sound told_stands told_contents (x.follows told_stands told_contents follows on);

@@ -7,9 +7,9 @@ use Rattle.bm_base.specs.declared.shape.Shape.{Shape}
 use Rattle.bm_base.specs.Shape.{dims_of, loads_of}
 use Rattle.bm_forms.specs.declared.job.Job.{Job}
 use Rattle.bm_rack.specs.RackView.{RackView, IsClean, IsWellFormed}
-use Rattle.bm_rack.specs.Frames.{RackCall, DirtiesOnly}
+use Rattle.bm_rack.specs.Frames.{RackCall, DirtiesOnly, MakesPageCalls}
 use Rattle.bm_rack.specs.Image.{SameInput}
-use Rattle.bm_control.specs.PageCalls.{IsStartPage, MakesPageCalls}
+use Rattle.bm_control.specs.PageCalls.{IsStartPage}
 use Rattle.bm_control.specs.Pages.{HasOpenJob}
 use Rattle.bm_control.specs.Progress.{IsGone}
 use Rattle.bm_control.specs.Sound.{IsSound}

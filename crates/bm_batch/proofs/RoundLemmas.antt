@@ -9,7 +9,7 @@ use Rattle.bm_job.specs.declared.machine.Machine.{Machine}
 use Rattle.bm_job.specs.Follows.{loads_moved}
 use Rattle.bm_job.specs.Runs.{loads_left}
 use Rattle.bm_job.specs.Turns.{SameJob}
-use Rattle.bm_job.proofs.PaceLemmas.{load_left}
+use Rattle.bm_job.proofs.LeftLemmas.{load_left}
 use Rattle.bm_batch.specs.declared.bay_slot.BaySlot.{BaySlot}
 use Rattle.bm_batch.specs.declared.bay_state.BayState.{BayState}
 use Rattle.bm_batch.specs.declared.bay_state.BayState.TheVariants.{Going, Finished, Ended}

@@ -11,6 +11,7 @@ use Rattle.bm_base.specs.Shape.{dims_of, load_stripes}
 use Rattle.bm_rack.specs.RackView.{RackView, IsWellFormed}
 use Rattle.bm_rack.specs.Frames.{RackCall, MakesCalls}
 use Rattle.bm_rack.specs.Image.{SameInput}
+use Rattle.bm_rack.proofs.CallLemmas.{most_of}
 use Rattle.bm_control.specs.Sound.{IsSound}
 use Rattle.bm_control.proofs.EqualLemmas.{some_injective}
 use Rattle.bm_job.specs.declared.machine.Machine.{Machine}
@@ -25,8 +26,7 @@ use Rattle.bm_job.specs.Runs.{IsWorkUnit, loads_left, load_rows}
 use Rattle.bm_job.specs.Turns.{SameJob, IsNextOf, IsHalted, TurnAnswer, IsTurnUnit, IsBadBody, form_pages, durable_pages, durable_syncs}
 use Rattle.bm_job.proofs.CallLemmas.{call_of, no_refusal, holds_ok}
 use Rattle.bm_job.proofs.EndLemmas.{done_records, same_input_records}
-use Rattle.bm_job.proofs.PaceLemmas.{load_left}
-use Rattle.bm_job.proofs.RunLemmas.{raised_most}
+use Rattle.bm_job.proofs.LeftLemmas.{load_left}
 use Rattle.bm_job.proofs.WorkUnitLemmas.{turn_work}
 use Rattle.bm_batch.specs.declared.bay_slot.BaySlot.{BaySlot}
 use Rattle.bm_batch.specs.declared.bay_state.BayState.{BayState}
@@ -181,9 +181,8 @@ bay_went ts tc m next r slot old new left machine state f = record {
   further = moved_further ts tc m next r old new f;
   moves = λ none.
       let ok = went_well r (λ e is. none e (state ∙ is)) in
-      f.counts.done ok ∙ ap (λ (k : ℕ). raised old.moves k) (sym (one_load m.shape _ _ (holds_ok r ok f.moved)));
-  most = raised_most old.moves new.moves _ _ f.counts.moves_high (one_within m left);
-  least = f.counts.moves_low;
+      f.counts.moves.done ok ∙ ap (λ (k : ℕ). raised old.moves k) (sym (one_load m.shape _ _ (holds_ok r ok f.moved)));
+  few = most_of _ _ _ _ _ (one_within m left) f.counts.moves;
   follows = λ ts tc fo none. holds_ok r (went_well r (λ e is. none e (state ∙ is))) (f.follows ts tc fo);
   sound = f.sound;
   input = f.input;
@@ -225,12 +224,12 @@ bay_step ts tc m next r slot old new machine state f = record {
   frame = f.call.frame;
   bad = λ told page is. f.bad told page (ended_by r (BadPage page) (sym state ∙ is));
   calls = record {
-    done = λ none. f.counts.done (went_well r (λ e is. none e (state ∙ is)));
-    moves_low = f.counts.moves_low;
-    moves_high = f.counts.moves_high;
-    pages_low = f.counts.pages_low;
-    pages_high = f.counts.pages_high;
-    syncs_low = f.counts.syncs_low;
-    syncs_high = f.counts.syncs_high;
+    moves = record {
+      done = λ none. f.counts.moves.done (went_well r (λ e is. none e (state ∙ is)));
+      low = f.counts.moves.low;
+      high = f.counts.moves.high;
+    };
+    pages = f.counts.pages;
+    syncs = f.counts.syncs;
   };
 }

@@ -10,10 +10,10 @@ use Rattle.bm_base.specs.Shape.{dims_of, load_stripes, loads_of}
 use Rattle.bm_forms.specs.declared.job.Job.{Job}
 use Rattle.bm_forms.specs.Job.{meaning}
 use Rattle.bm_rack.specs.RackView.{RackView, IsClean}
-use Rattle.bm_rack.specs.Frames.{RackCall, DirtiesOnly, MakesCalls}
+use Rattle.bm_rack.specs.Frames.{RackCall, DirtiesOnly, MakesCalls, MakesPageCalls, MovesFew}
 use Rattle.bm_rack.specs.Image.{SameInput}
 use Rattle.bm_control.specs.Consistent.{input_of}
-use Rattle.bm_control.specs.PageCalls.{IsStartPage, MakesPageCalls}
+use Rattle.bm_control.specs.PageCalls.{IsStartPage}
 use Rattle.bm_control.specs.Pages.{pass_gate, HasOpenLoad, HasOpenJob, HasLoadBody, HasJobBody}
 use Rattle.bm_control.specs.Progress.{IsGone}
 use Rattle.bm_control.specs.Sound.{IsSound}
@@ -135,8 +135,7 @@ pub record BayWent (told_stands told_contents : Bool) (m : Machine) (slot : BayS
   -- 2M/BD row calls for each load that was moved, unless it Ended
   pub moves : ((e : RunError) → slot.state ≢ Ended e)
       → new.moves ≡ raised old.moves (load_rows m.shape (loads_moved next - loads_moved m))
-  pub most : new.moves ≤ raised old.moves (load_rows m.shape (loads_left m))
-  pub least : old.moves ≤ new.moves
+  pub few : MovesFew (load_rows m.shape (loads_left m)) old new
   pub follows : IsTrue told_stands → IsTrue told_contents → Follows m old
       → ((e : RunError) → slot.state ≢ Ended e) → Follows next new
   -- at each exit

@@ -14,7 +14,6 @@ use Rattle.bm_batch.specs.Batches.{view_at}
 use Rattle.bm_top.specs.Causes.{HasOtherShape, HasOtherJob}
 use Rattle.bm_top.specs.DiskStatus.{run_status}
 use Rattle.bm_top.specs.Moment.{SourceView, Tells}
-use Rattle.bm_top.specs.Status.{IsOfInput}
 use Rattle.bm_top.specs.declared.status.Status.TheVariants as status
 use Rattle.bm_top.proofs.SameDisksLemmas.{sound_kept}
 use Rattle.bm_top.proofs.StepAnswerLemmas.{run_not_done, run_no_input}

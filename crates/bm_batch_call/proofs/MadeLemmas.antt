@@ -18,7 +18,7 @@ use Rattle.bm_control.specs.Pages.{HasOpenLoad, HasOpenJob, HasLoadBody, HasJobB
 use Rattle.bm_control.specs.Progress.{IsGone}
 use Rattle.bm_disks.specs.Dumping.{area_bytes}
 use Rattle.bm_job.specs.Runs.{load_rows}
-use Rattle.bm_job.proofs.HeldLemmas.{has_bits}
+use Rattle.bm_job.proofs.KeptJobLemmas.{has_bits}
 use Rattle.bm_batch.specs.declared.bay_state.BayState.{BayState}
 use Rattle.bm_batch.specs.declared.bay_state.BayState.TheVariants.{Finished}
 use Rattle.bm_batch.specs.Batches.{view_at}

@@ -23,9 +23,10 @@ use Rattle.bm_job.specs.Begins.{BeginAnswer}
 use Rattle.bm_job.specs.Follows.{loads_moved}
 use Rattle.bm_job.specs.Runs.{load_rows, run_most}
 use Rattle.bm_job.specs.Turns.{IsTurnRefusal, SameJob}
-use Rattle.bm_job.proofs.EndLemmas.{begin_complete, end_most, turn_complete, same_input_records}
-use Rattle.bm_job.proofs.HeldLemmas.{has_bits}
-use Rattle.bm_job.proofs.PaceLemmas.{loads_all}
+use Rattle.bm_job.proofs.EndLemmas.{begin_complete, turn_complete, same_input_records}
+use Rattle.bm_job.proofs.RunCallLemmas.{end_most}
+use Rattle.bm_job.proofs.KeptJobLemmas.{has_bits}
+use Rattle.bm_job.proofs.LeftLemmas.{loads_all}
 use Rattle.bm_batch.specs.declared.bay_slot.BaySlot.{BaySlot}
 use Rattle.bm_batch.specs.declared.bay_state.BayState.TheVariants.{Going, Ended}
 use Rattle.bm_batch.specs.Bays.{JobDone, BayBegun, BayTurns, BayWent}
@@ -144,8 +145,7 @@ bay_ran t s job passes every before slot old mid new well begun turns over = eli
         stands = went_stands _ _ _ _ _ _ went ∙ begun.call.frame.stands;
         attached = went_attached _ _ _ _ _ _ went ∙ begun.call.frame.attached;
         keeps = Keeps-trans old mid new begun.call.keeps went.call.keeps;
-        moves = (let few = end_most s job first.0 old mid new fresh begun.moves went.least went.most in
-            few_raised (run_most s job) old new few.low few.high);
+        moves = few_raised (run_most s job) ⊥ old new (end_most s job first.0 old mid new ⊥ fresh begun.moves went.few);
         moved = λ told fin. record {
           gone = loads_moved first.0;
           is_gone = begun.gone told first.0 first.1;

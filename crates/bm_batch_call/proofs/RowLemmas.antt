@@ -5,6 +5,7 @@ use Rattle.bm_base.specs.Contents.{Contents}
 use Rattle.bm_base.specs.Count.{raised}
 use Rattle.bm_base.specs.Shape.{stripes, loads_of}
 use Rattle.bm_rack.specs.RackView.{RackView}
+use Rattle.bm_rack.specs.Frames.{RisesWhere}
 use Rattle.bm_control.specs.Pages.{HasClosedJob}
 use Rattle.bm_control.specs.Progress.{IsGone}
 use Rattle.bm_job.specs.Runs.{load_rows}
@@ -16,8 +17,8 @@ use Rattle.bm_batch_call.specs.Bays.{RowsFew}
 pub few_same : (n : ℕ) (old new : RackView) → new.moves ≡ old.moves → RowsFew n old new
 few_same n old new same = record { low = omega (arith, same); high = omega (arith, same) }
 
-pub few_raised : (n : ℕ) (old new : RackView) → old.moves ≤ new.moves → new.moves ≤ raised old.moves n → RowsFew n old new
-few_raised n old new low high = record { low = low; high = omega (arith, high) }
+pub few_raised : (n : ℕ) (done : Type 0) (old new : RackView) → RisesWhere done n old.moves new.moves → RowsFew n old new
+few_raised n done old new x = record { low = x.low; high = omega (arith, x.high) }
 
 pub few_made : (n : ℕ) (old new : RackView) → old.moves ≤ new.moves → new.moves ≡ raised old.moves n → RowsFew n old new
 few_made n old new low is = record { low = low; high = omega (arith, is) }

@@ -16,7 +16,6 @@ use Rattle.bm_batch.specs.declared.bay_slot.BaySlot.{BaySlot}
 use Rattle.bm_batch.specs.declared.bay_state.BayState.{BayState}
 use Rattle.bm_batch.specs.Batches.{view_at}
 use Rattle.bm_top.specs.Moment.{SourceView, SinkView, Tells}
-use Rattle.bm_top.specs.Status.{IsOfInput}
 use Rattle.bm_top.specs.declared.status.Status.TheVariants as status
 use Rattle.bm_top.proofs.DumpLemmas.{dump_answer, dumped_ok, dump_no_input}
 use Rattle.bm_top.proofs.SameDisksLemmas.{sound_kept}

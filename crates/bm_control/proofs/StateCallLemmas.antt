@@ -21,34 +21,31 @@ use Rattle.bm_control.proofs.PageCallLemmas.{reads_more}
 
 -- fewer pages than the bound
 pub reads_fewer : (most more : ℕ) (old new : RackView) → most ≤ more → ReadsPages 0 most old new → ReadsPages 0 more old new
-reads_fewer most more old new less x = record
-    { moves = x.moves; syncs = x.syncs; low = x.low; high = (let h = x.high in omega (arith, h, less)) }
+reads_fewer most more old new less x = record {
+  moves = x.moves;
+  pages = record { low = x.pages.low; high = omega (arith, x.pages.high, less) };
+  syncs = x.syncs;
+}
 
 -- a number of pages within the bound
 pub reads_within : {tells_stands tells_contents : Bool} (n most : ℕ) (old new : RackView) → IsWellFormed tells_stands tells_contents old
     → n ≤ most
     → RaisesCounts 0 n 0 old new
     → ReadsPages 0 most old new
-reads_within n most old new well less x =
-    let fp = well.pages in
-    record {
-      moves = x.moves ∙ raised-zero old.moves well.moves;
-      syncs = x.syncs ∙ raised-zero old.syncs well.syncs;
-      low = omega (arith, x.pages, fp);
-      high = omega (arith, x.pages, less);
-    }
+reads_within n most old new well less x = record {
+  moves = x.moves ∙ raised-zero old.moves well.moves;
+  pages = record { low = omega (arith, x.pages, well.pages); high = omega (arith, x.pages, less) };
+  syncs = x.syncs ∙ raised-zero old.syncs well.syncs;
+}
 
 -- pages of which fewer may be, and more
 pub reads_wider : {tells_stands tells_contents : Bool} (least most more : ℕ) (old new : RackView)
     → IsWellFormed tells_stands tells_contents old → most ≤ more → ReadsPages least most old new → ReadsPages 0 more old new
-reads_wider least most more old new well less x =
-    let fp = well.pages in
-    record {
-      moves = x.moves;
-      syncs = x.syncs;
-      low = omega (arith, x.low, fp);
-      high = omega (arith, x.high, less);
-    }
+reads_wider least most more old new well less x = record {
+  moves = x.moves;
+  pages = record { low = omega (arith, x.pages.low, well.pages); high = omega (arith, x.pages.high, less) };
+  syncs = x.syncs;
+}
 
 -- the pages of a job whose body was found
 pub job_pages : (s : Shape) (v : Contents) (page : List ℕ) (found : Job × ℕ × ℕ) (old new : RackView) → page ≡ page_at v job_body

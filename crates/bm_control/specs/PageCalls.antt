@@ -1,38 +1,19 @@
--- How many page calls and syncs a call makes.
+-- Which pages a call reads and writes.
 use Rattle.std.specs.Prelude.{◌≡◌, ◌⊎◌, ℕ, ◌<◌, ◌≤◌}
 use Rattle.bm_base.specs.Contents.{RackUnit, block_unit, page_unit}
-use Rattle.bm_base.specs.Count.{raised}
 use Rattle.bm_rack.specs.RackView.{RackView}
-use Rattle.bm_rack.specs.Frames.{RaisesCounts}
+use Rattle.bm_rack.specs.Frames.{Stays, RisesWithin, CallCounts}
 use Rattle.bm_rack.specs.Calls.{IsPage}
 use Rattle.bm_control.specs.Pages.{load_body, load_gate, job_body, job_gate, pass_body, slot_body, slot_gate}
-
--- So many page calls and syncs where it succeeds, no more where it does not, and no row call.
-pub record MakesPageCalls (succeeds : Type 0) (p s : ℕ) (old new : RackView) : Type 0 where
-  pub done : succeeds → RaisesCounts 0 p s old new
-  pub moves : new.moves ≡ old.moves
-  pub pages_low : old.pages ≤ new.pages
-  pub pages_high : new.pages ≤ raised old.pages p
-  pub syncs_low : old.syncs ≤ new.syncs
-  pub syncs_high : new.syncs ≤ raised old.syncs s
-
--- At least so many page calls and syncs, and no row call.
-pub record MakesAtLeast (p s : ℕ) (old new : RackView) : Type 0 where
-  pub moves : new.moves ≡ old.moves
-  pub pages : raised old.pages p ≤ new.pages
-  pub syncs : raised old.syncs s ≤ new.syncs
 
 -- the pages of the load body and its gate
 abbrev pub IsLoadPage : RackUnit → Type 0
 IsLoadPage (block_unit disk place) = ⊥
 IsLoadPage (page_unit page) = (page ≡ load_body) ⊎ (page ≡ load_gate)
 
--- At least and at most so many page calls, and no other call.
-pub record ReadsPages (least most : ℕ) (old new : RackView) : Type 0 where
-  pub moves : new.moves ≡ old.moves
-  pub syncs : new.syncs ≡ old.syncs
-  pub low : raised old.pages least ≤ new.pages
-  pub high : new.pages ≤ raised old.pages most
+-- at least and at most so many page calls, and no other call
+abbrev pub ReadsPages : ℕ → ℕ → RackView → RackView → Type 0
+ReadsPages least most old new = CallCounts Stays (RisesWithin least most) Stays old new
 
 -- the pages of a slot's body and its gate
 abbrev pub IsSlotPage : ℕ → RackUnit → Type 0

@@ -3,10 +3,9 @@
 ghost use Rattle.std.specs.Prelude.{◌≡◌, ◌<◌, IsTrue, IsOk, IsErr, OnOk};
 ghost use Rattle.bm_base.specs.Contents.{page_at};
 ghost use Rattle.bm_rack.specs.RackView.{IsAttached, IsClean};
-ghost use Rattle.bm_rack.specs.Frames.{RackCall};
+ghost use Rattle.bm_rack.specs.Frames.{RackCall, MakesPageCalls};
 ghost use Rattle.bm_rack.specs.Calls.{IsPage};
 ghost use Rattle.bm_control.specs.Moments.{IsCleanPage};
-ghost use Rattle.bm_control.specs.PageCalls.{MakesPageCalls};
 
 use bm_base::{Failed, PAGE_BYTES};
 use bm_rack::Rack;

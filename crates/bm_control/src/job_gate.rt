@@ -4,9 +4,8 @@ ghost use Rattle.std.specs.Prelude.{◌≡◌, IsTrue, IsOk, IsErr, OnOk};
 ghost use Rattle.bm_base.specs.Contents.{page_at};
 ghost use Rattle.bm_base.specs.Gate.{IsOpenGate, IsClosedGate};
 ghost use Rattle.bm_rack.specs.RackView.{IsAttached, IsClean};
-ghost use Rattle.bm_rack.specs.Frames.{RackCall};
+ghost use Rattle.bm_rack.specs.Frames.{RackCall, MakesPageCalls};
 ghost use Rattle.bm_rack.specs.Calls.{IsPage};
-ghost use Rattle.bm_control.specs.PageCalls.{MakesPageCalls};
 ghost use Rattle.bm_control.specs.Sound.{IsSound};
 ghost use Rattle.bm_control.specs.Pages.{job_gate, HasOpenJob, IsZeroPage};
 

@@ -6,7 +6,7 @@ ghost use Rattle.bm_base.specs.Contents.{page_at};
 ghost use Rattle.bm_base.specs.Gate.{IsOpenGate, IsClosedGate};
 ghost use Rattle.bm_rack.specs.RackView.{IsAttached, IsClean};
 ghost use Rattle.bm_rack.specs.Image.{InEveryImage};
-ghost use Rattle.bm_rack.specs.Frames.{RackCall};
+ghost use Rattle.bm_rack.specs.Frames.{RackCall, MakesPageCalls};
 ghost use Rattle.bm_rack.specs.Calls.{IsPage};
 ghost use Rattle.bm_forms.specs.PassForm.{IsOfShape};
 ghost use Rattle.bm_forms.specs.Plan.{StandsFor};
@@ -16,7 +16,7 @@ ghost use Rattle.bm_control.specs.Moments.{JobIsWritten, PassesAreWritten};
 ghost use Rattle.bm_control.specs.Pages.{HasOpenLoad, HasOpenJob, HasClosedJob, HasLoadBody};
 ghost use Rattle.bm_control.specs.Pages.{HasJobBody};
 ghost use Rattle.bm_control.specs.Pages as page;
-ghost use Rattle.bm_control.specs.PageCalls.{MakesPageCalls, IsPassPage, IsSlotGate, IsJobPage};
+ghost use Rattle.bm_control.specs.PageCalls.{IsPassPage, IsSlotGate, IsJobPage};
 ghost use Rattle.bm_control.specs.PageCalls.{IsStartPage};
 ghost use Rattle.bm_control.specs.Sound.{IsSound};
 

@@ -6,12 +6,12 @@ ghost use Rattle.bm_base.specs.Gate.{IsOpenGate, IsClosedGate};
 ghost use Rattle.bm_base.specs.Shape.{dims_of};
 ghost use Rattle.bm_rack.specs.RackView.{IsAttached, IsClean};
 ghost use Rattle.bm_rack.specs.Image.{InEveryImage};
-ghost use Rattle.bm_rack.specs.Frames.{RackCall};
+ghost use Rattle.bm_rack.specs.Frames.{RackCall, MakesPageCalls};
 ghost use Rattle.bm_rack.specs.Calls.{IsPage};
 ghost use Rattle.bm_control.specs.Bodies.{load_page};
 ghost use Rattle.bm_control.specs.Pages.{load_gate, HasOpenLoad, HasClosedLoad, HasClosedJob};
 ghost use Rattle.bm_control.specs.Pages.{HasLoadBody, IsZeroPage};
-ghost use Rattle.bm_control.specs.PageCalls.{MakesPageCalls, IsLoadPage};
+ghost use Rattle.bm_control.specs.PageCalls.{IsLoadPage};
 ghost use Rattle.bm_control.specs.Sound.{IsSound};
 
 use crate::durable::write_page_durably;

@@ -4,11 +4,10 @@ ghost use Rattle.std.specs.Prelude.{◌≡◌, ◌+◌, ◌*◌, ◌<◌, IsTrue
 ghost use Rattle.bm_base.specs.Contents.{page_at};
 ghost use Rattle.bm_base.specs.Gate.{IsOpenGate};
 ghost use Rattle.bm_rack.specs.RackView.{IsAttached, IsClean};
-ghost use Rattle.bm_rack.specs.Frames.{RackCall};
+ghost use Rattle.bm_rack.specs.Frames.{RackCall, MakesPageCalls};
 ghost use Rattle.bm_rack.specs.Calls.{IsPage};
 ghost use Rattle.bm_control.specs.Moments.{PassIsDone};
 ghost use Rattle.bm_control.specs.Pages as page;
-ghost use Rattle.bm_control.specs.PageCalls.{MakesPageCalls};
 ghost use Rattle.bm_control.specs.Sound.{IsSound};
 
 use crate::durable::write_page_durably;

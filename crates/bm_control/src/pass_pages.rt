@@ -3,8 +3,7 @@
 ghost use Rattle.std.specs.Prelude.{◌≡◌, ◌<◌, ◌≤◌, ◌+◌, ◌*◌, ℕ, IsTrue, IsOk, IfOk, IsErrOf};
 ghost use Rattle.bm_base.specs.Contents.{Contents};
 ghost use Rattle.bm_rack.specs.RackView.{IsAttached};
-ghost use Rattle.bm_rack.specs.Frames.{SameState, Keeps, HasCause};
-ghost use Rattle.bm_control.specs.PageCalls.{MakesPageCalls};
+ghost use Rattle.bm_rack.specs.Frames.{SameState, Keeps, HasCause, MakesPageCalls};
 ghost use Rattle.bm_control.specs.State.{PassAnswer, PassesAnswer};
 
 use crate::gates::is_gate;

@@ -4,12 +4,12 @@ ghost use Rattle.std.specs.Prelude.{◌≡◌, ◌+◌, ◌*◌, ◌<◌, IsTrue
 ghost use Rattle.bm_base.specs.Contents.{page_at};
 ghost use Rattle.bm_base.specs.Gate.{IsOpenGate, IsClosedGate};
 ghost use Rattle.bm_rack.specs.RackView.{IsAttached, IsClean};
-ghost use Rattle.bm_rack.specs.Frames.{RackCall, SameState};
+ghost use Rattle.bm_rack.specs.Frames.{RackCall, SameState, MakesPageCalls, CallCounts, Stays, RisesLeast};
 ghost use Rattle.bm_rack.specs.Calls.{IsPage};
 ghost use Rattle.bm_control.specs.Bodies.{part_page, PartBodyFits};
 ghost use Rattle.bm_control.specs.Closing.{ClosesByZeros, IsShut};
 ghost use Rattle.bm_control.specs.Moments.{PartIsMoved, IsCleanPage};
-ghost use Rattle.bm_control.specs.PageCalls.{MakesPageCalls, MakesAtLeast, IsSlotPage};
+ghost use Rattle.bm_control.specs.PageCalls.{IsSlotPage};
 ghost use Rattle.bm_control.specs.Pages as page;
 ghost use Rattle.bm_control.specs.Sound.{IsSound};
 
@@ -50,7 +50,8 @@ pub fn mark_part<R: Rack>(
         → OnOk result
         (page_at (R.view rack.new).contents (page.slot_body slot) ≡ part_page pass loads) }
     ensures call { RackCall (IsSlotPage slot) (IsErr result) (R.view rack.old) (R.view rack.new) }
-    ensures least { OnOk result (MakesAtLeast 3 2 (R.view rack.old) (R.view rack.new)) }
+    ensures least { OnOk result (CallCounts Stays (RisesLeast 3) (RisesLeast 2)
+        (R.view rack.old) (R.view rack.new)) }
     ensures most { MakesPageCalls ⊥ 4 3 (R.view rack.old) (R.view rack.new) }
     ensures from_closed { IsTrue R.tells_contents
         → IsClosedGate (page_at (R.view rack.old).contents (page.slot_gate slot))
@@ -81,7 +82,8 @@ fn close_slot<R: Rack>(rack: &mut R, slot: u8) -> Result<(), Failed>
     ensures kept { IsTrue R.tells_contents
         → IsClosedGate (page_at (R.view rack.old).contents (page.slot_gate slot))
         → SameState (R.view rack.old) (R.view rack.new) }
-    ensures least { OnOk result (MakesAtLeast 1 0 (R.view rack.old) (R.view rack.new)) }
+    ensures least { OnOk result (CallCounts Stays (RisesLeast 1) (RisesLeast 0)
+        (R.view rack.old) (R.view rack.new)) }
     ensures settled { IsTrue R.tells_contents → IsCleanPage (page.slot_gate slot) (R.view rack.old)
         → OnOk result (IsCleanPage (page.slot_gate slot) (R.view rack.new)) }
     ensures call { RackCall (IsPage (page.slot_gate slot)) (IsErr result)

@@ -3,9 +3,9 @@
 ghost use Rattle.std.specs.Prelude.{◌≡◌, ◌<◌, ◌≤◌, ◌+◌, ℕ, IsTrue, IsOk, IfOk, IfSome, IsErrOf};
 ghost use Rattle.bm_base.specs.Contents.{Contents};
 ghost use Rattle.bm_rack.specs.RackView.{IsAttached};
-ghost use Rattle.bm_rack.specs.Frames.{SameState, Keeps, HasCause};
+ghost use Rattle.bm_rack.specs.Frames.{SameState, Keeps, HasCause, MakesPageCalls};
 ghost use Rattle.bm_base.specs.Shape.{loads_of};
-ghost use Rattle.bm_control.specs.PageCalls.{MakesPageCalls, ReadsPages};
+ghost use Rattle.bm_control.specs.PageCalls.{ReadsPages};
 ghost use Rattle.bm_control.specs.State.{SlotAnswer, SlotsAnswer, CountedOf, CountFits, PartFits};
 ghost use Rattle.bm_control.specs.StateCalls.{SlotReads};
 

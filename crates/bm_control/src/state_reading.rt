@@ -4,10 +4,10 @@ ghost use Rattle.std.specs.Prelude.{◌≡◌, ◌<◌, ◌≤◌, ◌+◌, ◌*
 ghost use Rattle.bm_base.specs.Contents.{Contents, page_at};
 ghost use Rattle.bm_forms.specs.PassForm.{IsOfShape};
 ghost use Rattle.bm_rack.specs.RackView.{IsAttached};
-ghost use Rattle.bm_rack.specs.Frames.{SameState, Keeps, HasCause, RaisesCounts};
+ghost use Rattle.bm_rack.specs.Frames.{SameState, Keeps, HasCause, RaisesCounts, MakesPageCalls};
 ghost use Rattle.bm_base.specs.Shape.{loads_of};
 ghost use Rattle.bm_control.specs.Bodies.{IsPassBody};
-ghost use Rattle.bm_control.specs.PageCalls.{MakesPageCalls, ReadsPages};
+ghost use Rattle.bm_control.specs.PageCalls.{ReadsPages};
 ghost use Rattle.bm_control.specs.Pages as page;
 ghost use Rattle.bm_control.specs.Sound.{IsSound};
 ghost use Rattle.bm_control.specs.State.{StateAnswer, StateFits, JobAnswer, PartFits};

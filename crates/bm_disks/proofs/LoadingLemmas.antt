@@ -1,10 +1,9 @@
 -- A rack on which records are loaded.
-use Rattle.std.proofs.Common.{◌≡◌, inl, inr, ℕ, ◌+◌, ◌%◌, ◌^◌, List, Ok, Err, Result, IfErr, sym, ◌∙◌, ap, subst, arith}
+use Rattle.std.proofs.Common.{inl, inr, ℕ, ◌+◌, ◌%◌, ◌^◌, List, Ok, Err, Result, IfErr, sym, ◌∙◌, ap, subst, arith}
 use Rattle.std.specs.Fork.{slice_chunk}
 use Rattle.bm_base.specs.declared.shape.Shape.{Shape}
 use Rattle.bm_base.specs.declared.area.Area.TheVariants.{Input}
 use Rattle.bm_base.specs.Contents.{RackUnit, block_unit, page_unit, page_at}
-use Rattle.bm_base.specs.Count.{raised}
 use Rattle.bm_rack.specs.RackView.{RackView}
 use Rattle.bm_rack.specs.Frames.{ChangesOnly, DirtiesOnly, RaisesCounts}
 use Rattle.bm_rack.proofs.FrameLemmas.{DirtiesOnly-changes, DirtiesOnly-trans, DirtiesOnly-wider}
@@ -72,12 +71,8 @@ job_gate_kept s old b c d input load shut =
 -- the calls of a load that is carried out
 pub loading_exact : (closings rows : ℕ) (a b c d : RackView) → RaisesCounts 0 (2 + closings) (1 + closings) a b
     → MovesRows rows (Unit {0}) b c → RaisesCounts 0 2 2 c d → RaisesCounts rows (4 + closings) (3 + closings) a d
-loading_exact closings rows a b c d x y z =
-    let made : c.moves ≡ raised b.moves rows = y.done tt in
-    let pages = y.pages in
-    let syncs = y.syncs in
-    record {
-      moves = omega (arith, x.moves, made, z.moves);
-      pages = omega (arith, x.pages, pages, z.pages);
-      syncs = omega (arith, x.syncs, syncs, z.syncs);
-    }
+loading_exact closings rows a b c d x y z = record {
+  moves = omega (arith, x.moves, y.moves.done tt, z.moves);
+  pages = omega (arith, x.pages, y.pages, z.pages);
+  syncs = omega (arith, x.syncs, y.syncs, z.syncs);
+}

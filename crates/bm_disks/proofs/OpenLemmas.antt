@@ -7,13 +7,12 @@ use Rattle.bm_base.specs.Contents.{Contents}
 use Rattle.bm_base.specs.Shape.{dims_of}
 use Rattle.bm_forms.specs.declared.job.Job.{Job}
 use Rattle.bm_rack.specs.RackView.{RackView, IsWellFormed}
-use Rattle.bm_rack.specs.Frames.{RaisesCounts}
+use Rattle.bm_rack.specs.Frames.{RaisesCounts, MakesPageCalls}
 use Rattle.bm_control.specs.declared.state.SlateState.{SlateState}
 use Rattle.bm_control.specs.declared.state.SlateState.TheVariants.{Closed, Loaded, Working}
 use Rattle.bm_control.specs.declared.state.ControlError.{ControlError}
 use Rattle.bm_control.specs.declared.state.ControlError.TheVariants as control
 use Rattle.bm_control.specs.Consistent.{GatesAre, IsConsistent}
-use Rattle.bm_control.specs.PageCalls.{MakesPageCalls}
 use Rattle.bm_control.specs.Sound.{IsSound}
 use Rattle.bm_control.specs.State.{StateAnswer}
 use Rattle.bm_control.specs.StateCalls.{StateCalls}
@@ -23,7 +22,8 @@ use Rattle.bm_control.proofs.GoneLemmas.{all_done_means}
 use Rattle.bm_control.proofs.StateCallLemmas.{reads_wider}
 use Rattle.bm_control.proofs.WrongPageLemmas.{no_bad_page}
 use Rattle.bm_job.specs.Runs.{IsRunnable}
-use Rattle.bm_job.proofs.BeginLemmas.{err_injective, sync_read, told_of}
+use Rattle.bm_job.proofs.BeginLemmas.{err_injective, told_of}
+use Rattle.bm_job.proofs.BeginCallLemmas.{sync_read}
 use Rattle.bm_job.proofs.EndLemmas.{loaded_shape, open_job}
 use Rattle.bm_disks.specs.declared.job_opening.OpenJob.{OpenJob}
 use Rattle.bm_disks.specs.declared.job_opening.OpenError.{OpenError}

@@ -4,8 +4,7 @@ ghost use Rattle.std.specs.Prelude.{◌≡◌, ◌+◌, ◌*◌, ℕ, Some, IsTr
 ghost use Rattle.bm_base.specs.Count.{Rose};
 ghost use Rattle.bm_base.specs.Shape.{dims_of};
 ghost use Rattle.bm_rack.specs.RackView.{IsClean};
-ghost use Rattle.bm_rack.specs.Frames.{RackCall};
-ghost use Rattle.bm_control.specs.PageCalls.{MakesPageCalls};
+ghost use Rattle.bm_rack.specs.Frames.{RackCall, MakesPageCalls};
 ghost use Rattle.bm_control.specs.Sound.{IsSound};
 ghost use Rattle.bm_control.specs.State.{StateFits};
 ghost use Rattle.bm_disks.specs.JobOpening.{open_error, OpenAnswer, OpenFits, IsOpenCase, LastAreaMeans, ReadAnswer};

@@ -40,7 +40,7 @@ use Rattle.bm_drill.specs.Sessions.{SessionsKeep, SessionsDone}
 use Rattle.bm_drill.specs.Steps.{IsNewRack, HasGenerated}
 use Rattle.bm_drill.specs.Drill.{IsDrilled, SessionCounts}
 use Rattle.bm_job.proofs.FailedLemmas.{load_rows_more}
-use Rattle.bm_job.proofs.HeldLemmas.{has_bits}
+use Rattle.bm_job.proofs.KeptJobLemmas.{has_bits}
 use Rattle.bm_job.proofs.RunLemmas.{rows_of_passes}
 
 -- ---- the input
@@ -178,4 +178,4 @@ sessions_small s job passes restarts moves small few less most =
 -- the row calls of an area that was hashed
 pub hash_rows : {T E : Type 0} (r : Result T E) (rows : ℕ) (b c : RackView) → MovesRows rows (IsOk r) b c → (x : T) → r ≡ Ok x
     → c.moves ≡ raised b.moves rows
-hash_rows r rows b c moved x is = moved.done (subst IsOk (sym is) refl)
+hash_rows r rows b c moved x is = moved.moves.done (subst IsOk (sym is) refl)

@@ -14,7 +14,7 @@ use Rattle.bm_control.specs.Progress.{IsGone, AreGone}
 use Rattle.bm_control.proofs.GoneLemmas.{consistent_gone}
 use Rattle.bm_control.proofs.ImageLemmas.{image_self, image_clean}
 use Rattle.bm_job.specs.Runs.{load_rows, run_most, KeepsJobs}
-use Rattle.bm_job.proofs.EndLemmas.{raised_rows}
+use Rattle.bm_job.proofs.RunCallLemmas.{raised_rows}
 use Rattle.bm_job.proofs.FailedLemmas.{load_rows_more}
 use Rattle.bm_control.specs.Pages.{job_gate, HasOpenJob, HasClosedJob}
 use Rattle.bm_drill.specs.Sessions.{SessionsKeep, KeepsRest}

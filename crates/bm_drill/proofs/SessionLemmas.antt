@@ -14,7 +14,7 @@ use Rattle.bm_base.specs.Records.{record_at}
 use Rattle.bm_forms.specs.declared.job.Job.{Job}
 use Rattle.bm_forms.specs.Job.{meaning}
 use Rattle.bm_rack.specs.RackView.{RackView, IsWellFormed}
-use Rattle.bm_rack.specs.Frames.{SameState, RackCall}
+use Rattle.bm_rack.specs.Frames.{SameState, RackCall, MovesFew, CallsFew}
 use Rattle.bm_rack.specs.Image.{IsImage, InEveryImage}
 use Rattle.bm_rack.specs.Sessions.{StopSet, Restarted}
 use Rattle.bm_rack.proofs.FrameLemmas.{raised-zero, ChangesOnly-refl, DirtiesOnly-changes}
@@ -28,8 +28,8 @@ use Rattle.bm_control.proofs.SoundLemmas.{sound_same, sound_restarted}
 use Rattle.bm_job.specs.declared.answers.RunError.{RunError}
 use Rattle.bm_job.specs.declared.answers.RunError.TheVariants.{Failed, NotLoaded, OtherShape, OtherJob, BadPage}
 use Rattle.bm_job.specs.Begins.{BeginAnswer}
-use Rattle.bm_job.specs.Runs.{IsRunUnit, load_rows, CallsFew, ReportFits, IsReportOf, RunAnswer, IsRunnable, RunDone, RunFailed, KeepsJobs}
-use Rattle.bm_job.specs.Runs.{run_most, KeepsOpenJob, MovesFew}
+use Rattle.bm_job.specs.Runs.{IsRunUnit, load_rows, ReportFits, IsReportOf, RunAnswer, IsRunnable, RunDone, RunFailed, KeepsJobs}
+use Rattle.bm_job.specs.Runs.{run_most, KeepsOpenJob}
 use Rattle.bm_job.proofs.EndLemmas.{keeps_open}
 use Rattle.bm_drill.specs.Session.{SessionKeeps, SessionWent, SessionStopped, SessionRefused, SessionAnswer}
 
@@ -122,8 +122,8 @@ run_keeps ts tc s job passes every pages syncs a b result x = record {
     steady = x.call.keeps.steady;
     faults = x.call.keeps.faults;
     moves = x.most.low;
-    pages = x.calls.pages_low;
-    syncs = x.calls.syncs_low;
+    pages = x.calls.pages.low;
+    syncs = x.calls.syncs.low;
   };
   rest = λ _ u apart clean. (x.call.frame.dirty u apart clean, x.call.frame.contents u apart);
   sound = x.sound;

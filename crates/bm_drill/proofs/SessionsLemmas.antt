@@ -7,7 +7,7 @@ use Rattle.bm_base.specs.declared.report.SessionsReport.{SessionsReport}
 use Rattle.bm_base.specs.declared.shape.Shape.{Shape}
 use Rattle.bm_base.specs.Area.{area_after}
 use Rattle.bm_base.specs.Contents.{Contents, page_at, HasSizes}
-use Rattle.bm_base.specs.Count.{raised, Rose}
+use Rattle.bm_base.specs.Count.{raised}
 use Rattle.bm_base.specs.Records.{record_at}
 use Rattle.bm_base.specs.Shape.{dims_of, loads_of}
 use Rattle.bm_base.proofs.CountLemmas.{rose_later}
@@ -22,7 +22,7 @@ use Rattle.bm_control.specs.Progress.{IsGone, AreGone}
 use Rattle.bm_control.specs.Sound.{IsSound}
 use Rattle.bm_control.proofs.ImageLemmas.{image_self}
 use Rattle.bm_control.proofs.MomentLemmas.{gate_cases}
-use Rattle.bm_job.proofs.HeldLemmas.{has_bits}
+use Rattle.bm_job.proofs.KeptJobLemmas.{has_bits}
 use Rattle.bm_job.specs.Runs.{load_rows, run_most, loads_before, IsReportOf, RunDone}
 use Rattle.bm_job.proofs.EndLemmas.{same_input_records}
 use Rattle.bm_control.proofs.UniqueLemmas.{passes_unique, every_unique}

@@ -3,35 +3,42 @@ use Rattle.std.proofs.Common.{Ok, Err, ◌≡◌, ℕ, ◌+◌, ◌*◌, ◌≤�
 use Rattle.bm_base.specs.declared.shape.Shape.{Shape}
 use Rattle.bm_base.specs.Contents.{Contents}
 use Rattle.bm_rack.specs.RackView.{RackView}
+use Rattle.bm_rack.proofs.CallLemmas.{most_of, most_then}
 use Rattle.bm_control.specs.declared.state.SlateState.{SlateState}
 use Rattle.bm_control.specs.declared.state.SlateState.TheVariants.{Loaded}
 use Rattle.bm_control.specs.Pages.{HasClosedJob}
-use Rattle.bm_control.specs.PageCalls.{MakesPageCalls}
+use Rattle.bm_rack.specs.Frames.{MakesPageCalls}
 use Rattle.bm_job.specs.declared.answers.RunError.{RunError}
 use Rattle.bm_job.specs.declared.machine.Machine.{Machine}
 use Rattle.bm_job.specs.Begins.{SettledCounts, SettledPages, BeginCalls, IsStart}
+use Rattle.std.proofs.Common.{Bool}
+use Rattle.bm_rack.specs.RackView.{IsWellFormed}
+use Rattle.bm_rack.specs.Frames.{RaisesCounts}
+use Rattle.bm_rack.proofs.CallLemmas.{rises_by}
+use Rattle.bm_rack.proofs.FrameLemmas.{raised-zero}
+use Rattle.bm_control.specs.declared.state.SlateState.TheVariants.{Closed, Working}
+use Rattle.bm_control.specs.declared.state.ControlError.{ControlError}
+use Rattle.bm_control.specs.PageCalls.{ReadsPages}
+use Rattle.bm_control.specs.State.{StateFits}
+use Rattle.bm_control.specs.StateCalls.{StateCalls, StatePages}
+use Rattle.bm_control.proofs.StateCallLemmas.{reads_within, reads_wider}
+use Rattle.bm_control.proofs.JobBodyLemmas.{limit-most}
 
 -- more calls may be made
 pub calls_wider : (p s p' s' : ℕ) (a b : RackView) → p ≤ p' → s ≤ s' → MakesPageCalls ⊥ p s a b → MakesPageCalls ⊥ p' s' a b
 calls_wider p s p' s' a b pages syncs x = record {
-  done = λ e. absurd e;
   moves = x.moves;
-  pages_low = x.pages_low;
-  pages_high = omega (arith, x.pages_high, pages);
-  syncs_low = x.syncs_low;
-  syncs_high = omega (arith, x.syncs_high, syncs);
+  pages = most_of p p' ⊥ _ _ pages x.pages;
+  syncs = most_of s s' ⊥ _ _ syncs x.syncs;
 }
 
 -- calls after others
 pub calls_then : (p s p' s' p'' s'' : ℕ) (a b c : RackView) → p + p' ≤ p'' → s + s' ≤ s'' → MakesPageCalls ⊥ p s a b
     → MakesPageCalls ⊥ p' s' b c → MakesPageCalls ⊥ p'' s'' a c
 calls_then p s p' s' p'' s'' a b c pages syncs x y = record {
-  done = λ e. absurd e;
   moves = y.moves ∙ x.moves;
-  pages_low = omega (arith, x.pages_low, y.pages_low);
-  pages_high = omega (arith, x.pages_high, y.pages_high, pages);
-  syncs_low = omega (arith, x.syncs_low, y.syncs_low);
-  syncs_high = omega (arith, x.syncs_high, y.syncs_high, syncs);
+  pages = most_then p p' p'' _ _ _ pages x.pages y.pages;
+  syncs = most_then s s' s'' _ _ _ syncs x.syncs y.syncs;
 }
 
 -- the most calls of a begin that starts nothing
@@ -76,3 +83,44 @@ counts_started passes every a b c (Err e) x y start = tt
 pub counts_loaded : (s : Shape) (state : SlateState) (a b : RackView) → state ≡ Loaded s → SettledCounts state a b
     → MakesPageCalls ⊥ 3 1 a b
 counts_loaded s state a b is x = subst (λ (t : SlateState). SettledCounts t a b) is x
+
+-- a sync and pages read after it
+pub sync_read : {tells_stands tells_contents : Bool} (most pages : ℕ) (a b c : RackView) → IsWellFormed tells_stands tells_contents a
+    → RaisesCounts 0 0 1 a b
+    → ReadsPages 0 most b c → most ≤ pages → MakesPageCalls ⊥ pages 1 a c
+sync_read most pages a b c well x y few = record {
+  moves = y.moves ∙ x.moves ∙ raised-zero a.moves well.moves;
+  pages = record {
+    done = λ e. absurd e;
+    low = omega (arith, x.pages, y.pages.low, well.pages);
+    high = omega (arith, x.pages, y.pages.high, few);
+  };
+  syncs = rises_by ⊥ 1 _ _ well.syncs (y.syncs ∙ x.syncs);
+}
+
+pub settled_pages : {tells_stands tells_contents : Bool} (v w : Contents) (a b c : RackView) → w ≡ v
+    → IsWellFormed tells_stands tells_contents a
+    → RaisesCounts 0 0 1 a b → StatePages w b c → SettledPages v a c
+settled_pages v w a b c same well x z =
+    let y = subst (λ (d : Contents). StatePages d b c) same z in record {
+      idle = λ closed. sync_read 3 3 a b c well x (y.idle closed) (omega arith);
+      bare = λ none. sync_read 4 4 a b c well x (y.bare none) (omega arith);
+      most = λ s job p every load body. sync_read (8 + 2 * p) (8 + 2 * p) a b c well x (y.most s job p every load body) (omega arith);
+    }
+
+-- the most pages that are read, whatever is told
+state_most : {tells_stands tells_contents : Bool} (r : Result SlateState ControlError) (old new : RackView)
+    → IsWellFormed tells_stands tells_contents old
+    → IfOk r StateFits → StateCalls r old new → ReadsPages 0 516 old new
+state_most (Ok Closed) old new well fits x = reads_within 1 516 old new well (omega arith) x
+state_most (Ok (Loaded s)) old new well fits x = reads_within 3 516 old new well (omega arith) x
+state_most (Ok (Working s job passes done every part slot)) old new well fits (x, whole) =
+    let few = limit-most s job in
+    let less = fits.body.passes_few in
+    reads_wider (4 + 2 * passes) (8 + 2 * passes) 516 old new well (omega (arith, few, less)) x
+state_most (Err e) old new well fits x = x
+
+pub settled_most : {tells_stands tells_contents : Bool} (r : Result SlateState ControlError) (a b c : RackView)
+    → IsWellFormed tells_stands tells_contents a
+    → IsWellFormed tells_stands tells_contents b → RaisesCounts 0 0 1 a b → IfOk r StateFits → StateCalls r b c → MakesPageCalls ⊥ 516 1 a c
+settled_most r a b c well then x fits y = sync_read 516 516 a b c well x (state_most r b c then fits y) (omega arith)

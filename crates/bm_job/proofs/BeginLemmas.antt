@@ -1,6 +1,6 @@
 -- A job that is begun.
-use Rattle.std.proofs.Common.{Ok, Err, ◌≡◌, ◌≢◌, inl, inr, ℕ, ◌+◌, ◌*◌, ◌^◌, ◌<◌, ◌≤◌, Bool, false, IsTrue, List, length, take, slice_get}
-use Rattle.std.proofs.Common.{Option, Some, None, Result, IfOk, IfErr, IsErrAnd, IsOkUnless, refl, sym, ◌∙◌, ap, subst, arith}
+use Rattle.std.proofs.Common.{Ok, Err, ◌≡◌, ◌≢◌, inl, inr, ℕ, ◌+◌, ◌*◌, ◌^◌, ◌<◌, Bool, false, IsTrue, List, length, take, slice_get}
+use Rattle.std.proofs.Common.{Option, Some, None, Result, IfErr, IsErrAnd, IsOkUnless, refl, sym, ◌∙◌, ap, subst, arith}
 use Rattle.std.proofs.Math.Path.{subst₂}
 use Rattle.std.proofs.lemmas.Bool.{cases_lt}
 use Rattle.bm_base.specs.declared.dims.Dims.{Dims}
@@ -14,27 +14,23 @@ use Rattle.bm_forms.specs.declared.job.Job.{Job}
 use Rattle.bm_forms.specs.declared.pass_form.PassForm.{PassForm}
 use Rattle.bm_forms.specs.PassForm.{passed}
 use Rattle.bm_forms.specs.Plan.{all_passed}
-use Rattle.bm_rack.specs.RackView.{RackView, IsClean, IsWellFormed}
+use Rattle.bm_rack.specs.RackView.{RackView, IsClean}
 use Rattle.bm_rack.specs.Image.{InEveryImage, IsInputUnit, SameInput}
-use Rattle.bm_rack.specs.Frames.{DirtiesOnly, RaisesCounts}
-use Rattle.bm_rack.proofs.FrameLemmas.{raised-zero}
+use Rattle.bm_rack.specs.Frames.{DirtiesOnly}
 use Rattle.bm_pass.proofs.PassLemmas.{image_below_records}
 use Rattle.bm_control.specs.declared.state.SlateState.{SlateState}
-use Rattle.bm_control.specs.declared.state.SlateState.TheVariants.{Closed, Loaded, Working}
+use Rattle.bm_control.specs.declared.state.SlateState.TheVariants.{Loaded}
 use Rattle.bm_control.specs.declared.state.ControlError.{ControlError}
 use Rattle.bm_control.specs.declared.state.ControlError.TheVariants as control
 use Rattle.bm_control.specs.Consistent.{BodiesAre, input_of, HoldsFirstLoads, SlotStands, JobStands}
 use Rattle.bm_control.specs.Moments.{JobIsWritten}
 use Rattle.bm_control.specs.Pages.{load_body, load_gate, slot_body, HasOpenJob, HasJobBody}
-use Rattle.bm_control.specs.PageCalls.{IsStartPage, MakesPageCalls, ReadsPages}
+use Rattle.bm_control.specs.PageCalls.{IsStartPage}
 use Rattle.bm_control.specs.Progress.{IsGone}
 use Rattle.bm_control.specs.Sound.{IsSound}
-use Rattle.bm_control.specs.State.{StateAnswer, StateFits, HasPassBody, IsFirstBad}
-use Rattle.bm_control.specs.StateCalls.{StateCalls, StatePages}
-use Rattle.bm_control.proofs.StateCallLemmas.{reads_within, reads_wider}
+use Rattle.bm_control.specs.State.{StateAnswer, HasPassBody, IsFirstBad}
 use Rattle.bm_control.proofs.EqualLemmas.{one_outcome, error_is, none_some}
 use Rattle.bm_control.proofs.ImageLemmas.{zeros_closed}
-use Rattle.bm_control.proofs.JobBodyLemmas.{limit-most}
 use Rattle.bm_control.proofs.JobStandsLemmas.{element}
 use Rattle.bm_control.proofs.StateLemmas.{part_unique}
 use Rattle.bm_job.specs.declared.answers.RunError.{RunError}
@@ -42,7 +38,7 @@ use Rattle.bm_job.specs.declared.answers.RunError.TheVariants as run
 use Rattle.bm_job.specs.declared.machine.Machine.{Machine}
 use Rattle.bm_job.specs.Errors.{run_error}
 use Rattle.bm_job.specs.Follows.{AreMoved, IsHeld, Follows, loads_moved}
-use Rattle.bm_job.specs.Begins.{IsLoadedAlone, SettledAnswer, SettledPages, ResumeAnswer, BeginAnswer, IsFresh, state_of}
+use Rattle.bm_job.specs.Begins.{IsLoadedAlone, SettledAnswer, ResumeAnswer, BeginAnswer, IsFresh, state_of}
 use Rattle.bm_job.proofs.HeldLemmas.{stands_at}
 use Rattle.bm_job.proofs.StepLemmas.{moved_by, moved_none, next_passed}
 
@@ -113,49 +109,6 @@ pub settled_error : (v w : Contents) (e : ControlError) (r : Result SlateState R
 settled_error v w e r same is answer =
     subst (SettledAnswer v) (sym (error_is r (run_error e) is))
     (error_told v e (subst (λ (c : Contents). StateAnswer c (Err e)) same answer))
-
--- a sync and pages read after it
-pub sync_read : {tells_stands tells_contents : Bool} (most pages : ℕ) (a b c : RackView) → IsWellFormed tells_stands tells_contents a
-    → RaisesCounts 0 0 1 a b
-    → ReadsPages 0 most b c → most ≤ pages → MakesPageCalls ⊥ pages 1 a c
-sync_read most pages a b c well x y few =
-    let fp = well.pages in
-    let fs = well.syncs in
-    record {
-      done = λ e. absurd e;
-      moves = y.moves ∙ x.moves ∙ raised-zero a.moves well.moves;
-      pages_low = omega (arith, x.pages, y.low, fp);
-      pages_high = omega (arith, x.pages, y.high, few);
-      syncs_low = omega (arith, x.syncs, y.syncs, fs);
-      syncs_high = omega (arith, x.syncs, y.syncs);
-    }
-
-pub settled_pages : {tells_stands tells_contents : Bool} (v w : Contents) (a b c : RackView) → w ≡ v
-    → IsWellFormed tells_stands tells_contents a
-    → RaisesCounts 0 0 1 a b → StatePages w b c → SettledPages v a c
-settled_pages v w a b c same well x z =
-    let y = subst (λ (d : Contents). StatePages d b c) same z in record {
-      idle = λ closed. sync_read 3 3 a b c well x (y.idle closed) (omega arith);
-      bare = λ none. sync_read 4 4 a b c well x (y.bare none) (omega arith);
-      most = λ s job p every load body. sync_read (8 + 2 * p) (8 + 2 * p) a b c well x (y.most s job p every load body) (omega arith);
-    }
-
--- the most pages that are read, whatever is told
-state_most : {tells_stands tells_contents : Bool} (r : Result SlateState ControlError) (old new : RackView)
-    → IsWellFormed tells_stands tells_contents old
-    → IfOk r StateFits → StateCalls r old new → ReadsPages 0 516 old new
-state_most (Ok Closed) old new well fits x = reads_within 1 516 old new well (omega arith) x
-state_most (Ok (Loaded s)) old new well fits x = reads_within 3 516 old new well (omega arith) x
-state_most (Ok (Working s job passes done every part slot)) old new well fits (x, whole) =
-    let few = limit-most s job in
-    let less = fits.body.passes_few in
-    reads_wider (4 + 2 * passes) (8 + 2 * passes) 516 old new well (omega (arith, few, less)) x
-state_most (Err e) old new well fits x = x
-
-pub settled_most : {tells_stands tells_contents : Bool} (r : Result SlateState ControlError) (a b c : RackView)
-    → IsWellFormed tells_stands tells_contents a
-    → IsWellFormed tells_stands tells_contents b → RaisesCounts 0 0 1 a b → IfOk r StateFits → StateCalls r b c → MakesPageCalls ⊥ 516 1 a c
-settled_most r a b c well then x fits y = sync_read 516 516 a b c well x (state_most r b c then fits y) (omega arith)
 
 -- the loads that an open slot counts of the pass under way are moved
 slot_moved : (s : Shape) (v : Contents) (j : JobStands s v) (slot part : ℕ) (t : SlotStands s v j.forms j.done slot) → t.pass ≡ j.done + 1

@@ -1,12 +1,14 @@
 -- Calls of a rack as those of a turn.
-use Rattle.std.proofs.Common.{◌≡◌, ℕ, ◌+◌, Bool, Result, Ok, Err, IsOk, OnOk, subst, arith}
+use Rattle.std.proofs.Common.{◌≡◌, ℕ, ◌+◌, Bool, Result, Ok, Err, IsOk, OnOk, sym, subst, arith}
 use Rattle.std.proofs.lemmas.Bool.{false≢true}
 use Rattle.bm_base.specs.Contents.{RackUnit}
 use Rattle.bm_rack.specs.RackView.{RackView, IsWellFormed}
-use Rattle.bm_rack.specs.Frames.{SameState, DirtiesOnly, Keeps, HasCause, RaisesCounts, MovesRows, RackCall, MakesCalls}
+use Rattle.bm_rack.specs.Frames.{SameState, DirtiesOnly, Keeps, HasCause, RaisesCounts, MovesRows, RackCall, MakesCalls, MakesPageCalls}
+use Rattle.bm_rack.specs.Frames.{RisesMost}
+use Rattle.bm_rack.proofs.CallLemmas.{rises_by, rises_then, rises_wider, most_of, most_then}
 use Rattle.bm_rack.proofs.FrameLemmas.{ChangesOnly-same, DirtiesOnly-wider, DirtiesOnly-changes, DirtiesOnly-trans, Keeps-trans}
 use Rattle.bm_rack.proofs.FrameLemmas.{HasCause-later}
-use Rattle.bm_control.specs.PageCalls.{MakesPageCalls, IsSlotPage}
+use Rattle.bm_control.specs.PageCalls.{IsSlotPage}
 
 -- an answer is no refusal
 pub no_refusal : {T E : Type 0} (x : T) (e : E) → ¬ (◌≡◌ {A = Result T E} (Ok x) (Err e))
@@ -55,35 +57,29 @@ quiet a b s = DirtiesOnly-changes (λ u. ⊥) a b (ChangesOnly-same (λ u. ⊥) 
 pub calls_failed : {tells_stands tells_contents : Bool} (succeeds finished : Type 0) (rows read pages syncs : ℕ) (a b c : RackView)
     → IsWellFormed tells_stands tells_contents a → ¬ succeeds → RaisesCounts 0 read 0 a b → MovesRows rows finished b c
     → MakesCalls succeeds rows (read + pages) syncs a c
-calls_failed succeeds finished rows read pages syncs a b c well fails x y =
-    let fm = well.moves in
-    let fp = well.pages in
-    let fs = well.syncs in
-    record {
-      done = λ ok. absurd (fails ok);
-      moves_low = omega (arith, x.moves, y.low, fm);
-      moves_high = omega (arith, x.moves, y.high, fm);
-      pages_low = omega (arith, x.pages, y.pages, fp);
-      pages_high = omega (arith, x.pages, y.pages);
-      syncs_low = omega (arith, x.syncs, y.syncs, fs);
-      syncs_high = omega (arith, x.syncs, y.syncs);
-    }
+calls_failed succeeds finished rows read pages syncs a b c well fails x y = record {
+  moves = rises_wider (0 + rows) rows finished succeeds _ _ (omega arith) (λ ok. absurd (fails ok))
+      (rises_then 0 rows (Unit {0}) finished _ _ _ (λ _. tt) (rises_by (Unit {0}) 0 _ _ well.moves x.moves) y.moves);
+  pages = most_of read (read + pages) ⊥ _ _ (omega arith)
+      (subst (λ (n : ℕ). RisesMost read a.pages n) (sym y.pages) (rises_by ⊥ read _ _ well.pages x.pages));
+  syncs = most_of 0 syncs ⊥ _ _ (omega arith)
+      (subst (λ (n : ℕ). RisesMost 0 a.syncs n) (sym y.syncs) (rises_by ⊥ 0 _ _ well.syncs x.syncs));
+}
 
 -- a turn whose load was moved
 pub calls_all : {tells_stands tells_contents : Bool} (succeeds finished : Type 0) (rows read pages syncs : ℕ) (a b c d : RackView)
     → IsWellFormed tells_stands tells_contents a → finished → RaisesCounts 0 read 0 a b → MovesRows rows finished b c
     → MakesPageCalls ⊥ pages syncs c d → MakesCalls succeeds rows (read + pages) syncs a d
 calls_all succeeds finished rows read pages syncs a b c d well all x y z =
-    let fm = well.moves in
-    let fp = well.pages in
-    let fs = well.syncs in
-    let made = y.done all in
+    let before = calls_failed ⊥ finished rows read 0 0 a b c well (λ e. e) x y in
+    let made = y.moves.done all in
     record {
-      done = λ _. (let e = z.moves in omega (arith, x.moves, made, e, fm));
-      moves_low = (let e = z.moves in omega (arith, x.moves, y.low, e, fm));
-      moves_high = (let e = z.moves in omega (arith, x.moves, y.high, e, fm));
-      pages_low = omega (arith, x.pages, y.pages, z.pages_low, fp);
-      pages_high = omega (arith, x.pages, y.pages, z.pages_high);
-      syncs_low = omega (arith, x.syncs, y.syncs, z.syncs_low, fs);
-      syncs_high = omega (arith, x.syncs, y.syncs, z.syncs_high);
+      moves = record {
+        done = λ _. omega (arith, x.moves, made, z.moves, well.moves);
+        low = omega (arith, before.moves.low, z.moves);
+        high = omega (arith, before.moves.high, z.moves);
+      };
+      pages = most_then read pages (read + pages) _ _ _ (omega arith)
+          (most_of (read + 0) read ⊥ _ _ (omega arith) before.pages) z.pages;
+      syncs = most_then 0 syncs syncs _ _ _ (omega arith) before.syncs z.syncs;
     }

@@ -1,5 +1,5 @@
 -- What stands after a run, and what it answers.
-use Rattle.std.proofs.Common.{Ok, Err, ◌≡◌, ◌≢◌, inl, inr, ℕ, ◌%◌, ◌^◌, ◌<◌, ◌≤◌, List, length, replicate, slice_index, Some, refl}
+use Rattle.std.proofs.Common.{Ok, Err, ◌≡◌, ◌≢◌, inl, inr, ℕ, ◌%◌, ◌^◌, ◌<◌, List, length, replicate, slice_index, Some, refl}
 use Rattle.std.proofs.Common.{sym, ◌∙◌, ap, subst, arith}
 use Rattle.std.proofs.lemmas.List.{length-replicate}
 use Rattle.std.specs.Fork.{slice_chunk}
@@ -9,13 +9,11 @@ use Rattle.bm_base.specs.declared.shape.Shape.{Shape}
 use Rattle.bm_base.specs.declared.area.Area.TheVariants.{Input}
 use Rattle.bm_base.specs.Area.{area_after}
 use Rattle.bm_base.specs.Contents.{Contents, RackUnit, block_unit, page_unit, page_at, HasSizes}
-use Rattle.bm_base.specs.Count.{raised}
 use Rattle.bm_base.specs.Records.{SameRecords, record_at}
 use Rattle.bm_base.specs.Shape.{dims_of}
 use Rattle.bm_forms.specs.declared.job.Job.{Job}
 use Rattle.bm_forms.specs.declared.job.Job.TheVariants.{Permute, Walsh}
 use Rattle.bm_forms.specs.Job.{meaning, HasBits}
-use Rattle.bm_forms.specs.PassLimit.{limit_of}
 use Rattle.bm_forms.proofs.JobLemmas.{meaning-same}
 use Rattle.bm_rack.specs.RackView.{RackView}
 use Rattle.bm_rack.specs.Frames.{DirtiesOnly}
@@ -39,12 +37,11 @@ use Rattle.bm_job.specs.declared.machine.Machine.{Machine}
 use Rattle.bm_job.specs.Begins.{BeginAnswer, IsFresh, IsLoadedState, IsOpenState, OpensOnly, state_of}
 use Rattle.bm_job.specs.Follows.{Follows}
 use Rattle.bm_job.specs.Turns.{IsTurnRefusal}
-use Rattle.bm_job.specs.Runs.{IsJobsPage, IsWorkUnit, IsRunUnit, loads_left, load_rows, IsReportOf, RunAnswer, IsRunnable, RunDone}
-use Rattle.bm_job.specs.Runs.{KeepsJobs, KeepsOpenJob, MovesFew, IsEnd, run_most}
-use Rattle.bm_job.proofs.HeldLemmas.{has_bits}
+use Rattle.bm_job.specs.Runs.{IsJobsPage, IsWorkUnit, IsRunUnit, IsReportOf, RunAnswer, IsRunnable, RunDone}
+use Rattle.bm_job.specs.Runs.{KeepsJobs, KeepsOpenJob, IsEnd}
+use Rattle.bm_job.proofs.KeptJobLemmas.{has_bits}
 use Rattle.bm_job.proofs.DoneLemmas.{finished_means}
 use Rattle.bm_job.proofs.WorkUnitLemmas.{front_kept}
-use Rattle.bm_job.proofs.RunLemmas.{rows_most}
 use Rattle.bm_control.proofs.UniqueLemmas.{job_unique}
 
 -- ---- what is written
@@ -254,25 +251,6 @@ run_done s job start end passes every r old mid new (fresh, told) unchanged w is
       ];
       stored = λ opened. w.contents (page_unit job_body) (front_kept start.shape job_body (omega arith))
           ∙ (unchanged opened).contents (page_unit job_body) (λ e. e);
-    }
-
--- a count after calls that were fewer
-pub raised_rows : (a b c k l : ℕ) → b ≡ a → c ≤ raised b k → k ≤ l → c ≤ raised a l
-raised_rows a b c k l same few more = omega (arith, same, few, more)
-
--- the row calls are within the job's limit
-pub end_most : (s : Shape) (job : Job) (m : Machine) (old mid new : RackView) → IsFresh s job m → mid.moves ≡ old.moves
-    → mid.moves ≤ new.moves → new.moves ≤ raised mid.moves (load_rows m.shape (loads_left m))
-    → MovesFew (run_most s job) old new
-end_most s job m old mid new fresh moves low few =
-    let rows : load_rows m.shape (loads_left m) ≤ run_most m.shape m.job = rows_most m.shape m.passes
-    (limit_of m.shape m.job) (loads_left m) m.keeps.passes_few (omega arith) in
-    let all : run_most m.shape m.job ≡ run_most s job = ap (λ (t : Shape). run_most t m.job) fresh.shape
-    ∙ ap (run_most s) fresh.job_is in
-    record {
-      low = omega (arith, moves, low);
-      high = raised_rows old.moves mid.moves new.moves (load_rows m.shape (loads_left m)) (run_most s job) moves few
-          (omega (arith, rows, all));
     }
 
 -- a job's kind is no zero

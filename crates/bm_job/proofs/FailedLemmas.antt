@@ -21,7 +21,8 @@ use Rattle.bm_job.specs.Follows.{Follows, loads_moved}
 use Rattle.bm_job.specs.Runs.{IsWorkUnit, load_rows, RunFailed, IsReached}
 use Rattle.bm_control.proofs.UniqueLemmas.{every_unique}
 use Rattle.bm_job.proofs.WorkUnitLemmas.{front_kept}
-use Rattle.bm_job.proofs.EndLemmas.{image_before, front_image, raised_rows}
+use Rattle.bm_job.proofs.EndLemmas.{image_before, front_image}
+use Rattle.bm_job.proofs.RunCallLemmas.{raised_rows}
 
 -- a begin that failed
 pub begin_failed : (s : Shape) (old new : RackView) → (HasOpenJob old.contents → DirtiesOnly (λ u. ⊥) old new) → new.stands ≡ old.stands

@@ -2,6 +2,7 @@ pub mod RangeLemmas
 pub mod CallLemmas
 pub mod InputUnitLemmas
 pub mod AreaLoadLemmas
+pub mod KeptJobLemmas
 pub mod HeldLemmas
 pub mod StepLemmas
 pub mod CountedLemmas
@@ -10,6 +11,7 @@ pub mod BeginLemmas
 pub mod BeginCallLemmas
 pub mod DoneLemmas
 pub mod PaceLemmas
+pub mod LeftLemmas
 pub mod WorkUnitLemmas
 pub mod RunLemmas
 pub mod RunCallLemmas

@@ -6,11 +6,9 @@ use Rattle.std.proofs.lemmas.Bool.{false≢true, cases_eq, eq-eqb, ne_eqb}
 use Rattle.std.proofs.lemmas.Grind.{div_ceil_times}
 use Rattle.std.proofs.lemmas.Nat.{div-mul-add, div-add-mod'}
 use Rattle.std.proofs.Math.Nat.{mod-lt, div-eq_of_lt, mul-le-mul_right, lt_of_mul-lt-mul_right}
-use Rattle.bm_base.specs.declared.shape.Shape.{Shape}
 use Rattle.bm_forms.specs.declared.pass_form.PassForm.{PassForm}
 use Rattle.bm_base.specs.Shape.{loads_of}
 use Rattle.bm_job.specs.declared.machine.Machine.{Machine}
-use Rattle.bm_job.specs.Follows.{loads_moved, loads_counted}
 use Rattle.bm_job.specs.Turns.{SameJob, IsNextOf, IsLastLoad, form_pages, durable_pages, durable_syncs}
 use Rattle.bm_job.specs.Runs.{marks_of, turn_pages, turn_syncs}
 
@@ -285,56 +283,3 @@ turn_syncs_paid old new n = subst (λ (k : ℕ). syncs_spent old + durable_syncs
         let place : new.load / old.every ≡ old.load / old.every = ap (λ (k : ℕ). k / old.every) to.1
         ∙ place_same old.every old.load old.keeps.every_some some in
         omega (arith, b, all, place)
-
--- what is counted grows from turn to turn
-pub counted_grows : (old new : Machine) → IsNextOf old new → loads_counted old ≤ loads_counted new
-counted_grows old new n = subst (λ (s : Shape). loads_counted old ≤ new.done * loads_of s + new.part) (sym n.same.shape)
-    (grows (turn_kind old))
-  where
-    grows : TurnKind old → loads_counted old ≤ new.done * loads_of old.shape + new.part
-    grows (last_load last) =
-        let to = n.last last in
-        let few = old.keeps.counted.few in
-        let all : new.done * loads_of old.shape ≡ (old.done + 1) * loads_of old.shape = ap (λ (k : ℕ). k * loads_of old.shape) to.0 in
-        omega (arith, few, all)
-    grows (marked_load within none) =
-        let to = n.before within in
-        let part = (n.marked (within, none)).0 in
-        let few = old.keeps.moved in
-        let all : new.done * loads_of old.shape ≡ old.done * loads_of old.shape = ap (λ (k : ℕ). k * loads_of old.shape) to.0 in
-        omega (arith, few, all, part)
-    grows (other_load within some) =
-        let to = n.before within in
-        let part = (n.unmarked within some).0 in
-        let all : new.done * loads_of old.shape ≡ old.done * loads_of old.shape = ap (λ (k : ℕ). k * loads_of old.shape) to.0 in
-        omega (arith, all, part)
-
--- a load is left where a pass is
-pub load_left : (m : Machine) → m.done < m.passes → loads_moved m + 1 ≤ m.passes * loads_of m.shape
-load_left m left =
-    let within = m.keeps.within in
-    let all : (m.done + 1) * loads_of m.shape ≤ m.passes * loads_of m.shape = mul-le-mul_right (loads_of m.shape) (omega (arith, left)) in
-    omega (arith, within, all)
-
--- no more loads are moved than there are
-pub loads_few : (m : Machine) → loads_moved m ≤ m.passes * loads_of m.shape
-loads_few m = elim (cases_eq m.done m.passes) [
-  | inl end ↦
-      let rest = m.keeps.rest end in
-      let all : m.done * loads_of m.shape ≡ m.passes * loads_of m.shape = ap (λ (k : ℕ). k * loads_of m.shape) end in
-      omega (arith, rest, all)
-  | inr before ↦ (let few = m.keeps.done_few in let one = load_left m (omega (arith, before, few)) in omega (arith, one))
-]
-
--- all are moved at the end
-pub loads_all : (m : Machine) → m.done ≡ m.passes → loads_moved m ≡ m.passes * loads_of m.shape
-loads_all m end =
-    let rest = m.keeps.rest end in
-    let all : m.done * loads_of m.shape ≡ m.passes * loads_of m.shape = ap (λ (k : ℕ). k * loads_of m.shape) end in
-    omega (arith, rest, all)
-
--- the loads moved are few more than those counted
-pub moved_near : (m : Machine) → loads_moved m < loads_counted m + m.every
-moved_near m =
-    let near = near_places m.every m.part m.load m.keeps.every_some (sym m.keeps.near) in
-    omega (arith, near)

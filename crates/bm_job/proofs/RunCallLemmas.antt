@@ -1,4 +1,4 @@
--- How many page calls and syncs a run makes.
+-- How many calls a run makes.
 use Rattle.std.proofs.Common.{Ok, ◌≡◌, inl, inr, ℕ, ◌+◌, ◌-◌, ◌*◌, ◌≤◌, ◌∙◌, ap, subst, arith}
 use Rattle.std.proofs.lemmas.Bool.{cases_lt}
 use Rattle.std.proofs.lemmas.Grind.{div_ceil_times}
@@ -10,24 +10,28 @@ use Rattle.bm_base.specs.Shape.{loads_of}
 use Rattle.bm_forms.specs.declared.job.Job.{Job}
 use Rattle.bm_forms.specs.PassLimit.{limit_of}
 use Rattle.bm_rack.specs.RackView.{RackView}
-use Rattle.bm_rack.specs.Frames.{MakesCalls}
+use Rattle.bm_rack.specs.Frames.{MakesCalls, MakesPageCalls, CallsFew}
+use Rattle.bm_rack.proofs.CallLemmas.{most_of, most_then}
 use Rattle.bm_control.specs.Pages.{load_body, job_body, HasJobBody}
-use Rattle.bm_control.specs.PageCalls.{MakesPageCalls}
 use Rattle.bm_control.proofs.MomentLemmas.{load_unique}
 use Rattle.bm_job.specs.declared.machine.Machine.{Machine}
 use Rattle.bm_job.specs.Begins.{BeginAnswer, BeginCalls, IsFresh}
-use Rattle.bm_job.specs.Runs.{turn_pages, turn_syncs, run_pages, run_syncs, marks_of, most_pages, most_syncs, CallsFew, RunCalls}
+use Rattle.bm_job.specs.Runs.{turn_pages, turn_syncs, run_pages, run_syncs, marks_of, most_pages, most_syncs, RunCalls}
 use Rattle.bm_control.proofs.UniqueLemmas.{passes_unique, every_unique}
+use Rattle.bm_base.specs.Count.{raised}
+use Rattle.bm_rack.specs.Frames.{MovesFew, RisesMost, RisesWhere}
+use Rattle.bm_job.specs.Runs.{loads_left, load_rows}
+use Rattle.bm_job.specs.Runs.{run_most}
+use Rattle.bm_job.proofs.RunLemmas.{rows_most}
 
 -- the calls of a begin and of turns
 pub both_calls : (t : Shape) (passes every rows : ℕ) (succeeds : Type 0) (a b c : RackView) → MakesPageCalls ⊥ (8 + 2 * passes) 3 a b
     → MakesCalls succeeds rows (turn_pages t passes every) (turn_syncs t passes every) b c
     → CallsFew (run_pages t passes every) (run_syncs t passes every) a c
 both_calls t passes every rows succeeds a b c x y = record {
-  pages_low = omega (arith, x.pages_low, y.pages_low);
-  pages_high = omega (arith, x.pages_high, y.pages_high);
-  syncs_low = omega (arith, x.syncs_low, y.syncs_low);
-  syncs_high = omega (arith, x.syncs_high, y.syncs_high);
+  moves = omega (arith, x.moves, y.moves.low);
+  pages = most_then (8 + 2 * passes) (turn_pages t passes every) (run_pages t passes every) _ _ _ (omega arith) x.pages y.pages;
+  syncs = most_then 3 (turn_syncs t passes every) (run_syncs t passes every) _ _ _ (omega arith) x.syncs y.syncs;
 }
 
 -- the calls of a begin alone
@@ -35,10 +39,9 @@ calls_few : (t : Shape) (passes every pages syncs : ℕ) (a b : RackView) → pa
     → MakesPageCalls ⊥ pages syncs a b
     → CallsFew (run_pages t passes every) (run_syncs t passes every) a b
 calls_few t passes every pages syncs a b few less x = record {
-  pages_low = x.pages_low;
-  pages_high = omega (arith, x.pages_high, few);
-  syncs_low = x.syncs_low;
-  syncs_high = omega (arith, x.syncs_high, less);
+  moves = omega (arith, x.moves);
+  pages = most_of pages (run_pages t passes every) ⊥ _ _ (omega (arith, few)) x.pages;
+  syncs = most_of syncs (run_syncs t passes every) ⊥ _ _ (omega (arith, less)) x.syncs;
 }
 
 -- where no turn was taken
@@ -100,10 +103,11 @@ turns_few s passes most every k few some =
 
 -- on every rack: of a begin alone
 pub most_begun : (s : Shape) (job : Job) (a b : RackView) → MakesPageCalls ⊥ 516 3 a b → CallsFew (most_pages s job) (most_syncs s job) a b
-most_begun s job a b x =
-    let high = x.pages_high in
-    let syncs = x.syncs_high in
-    record { pages_low = x.pages_low; pages_high = omega (arith, high); syncs_low = x.syncs_low; syncs_high = omega (arith, syncs) }
+most_begun s job a b x = record {
+  moves = omega (arith, x.moves);
+  pages = most_of 516 (most_pages s job) ⊥ _ _ (omega arith) x.pages;
+  syncs = most_of 3 (most_syncs s job) ⊥ _ _ (omega arith) x.syncs;
+}
 
 -- and of turns after it
 pub most_run : (s : Shape) (job : Job) (m : Machine) (rows : ℕ) (succeeds : Type 0) (a b c : RackView) → IsFresh s job m
@@ -119,8 +123,22 @@ most_run s job m rows succeeds a b c fresh x y =
     let syncs : most_syncs m.shape m.job ≡ most_syncs s job = ap (λ (t : Shape). most_syncs t m.job) fresh.shape
     ∙ ap (most_syncs s) fresh.job_is in
     record {
-      pages_low = omega (arith, x.pages_low, y.pages_low);
-      pages_high = omega (arith, x.pages_high, y.pages_high, p, pages);
-      syncs_low = omega (arith, x.syncs_low, y.syncs_low);
-      syncs_high = omega (arith, x.syncs_high, y.syncs_high, q, syncs);
+      moves = omega (arith, x.moves, y.moves.low);
+      pages = most_then 516 (turn_pages m.shape m.passes m.every) (most_pages s job) _ _ _ (omega (arith, p, pages)) x.pages y.pages;
+      syncs = most_then 3 (turn_syncs m.shape m.passes m.every) (most_syncs s job) _ _ _ (omega (arith, q, syncs)) x.syncs y.syncs;
     }
+
+-- a count after calls that were fewer
+pub raised_rows : (a b c k l : ℕ) → b ≡ a → c ≤ raised b k → k ≤ l → c ≤ raised a l
+raised_rows a b c k l same few more = omega (arith, same, few, more)
+
+-- the row calls are within the job's limit
+pub end_most : (s : Shape) (job : Job) (m : Machine) (old mid new : RackView) (done : Type 0) → IsFresh s job m → mid.moves ≡ old.moves
+    → RisesWhere done (load_rows m.shape (loads_left m)) mid.moves new.moves → MovesFew (run_most s job) old new
+end_most s job m old mid new done fresh moves few =
+    let rows : load_rows m.shape (loads_left m) ≤ run_most m.shape m.job = rows_most m.shape m.passes
+    (limit_of m.shape m.job) (loads_left m) m.keeps.passes_few (omega arith) in
+    let all : run_most m.shape m.job ≡ run_most s job = ap (λ (t : Shape). run_most t m.job) fresh.shape
+    ∙ ap (run_most s) fresh.job_is in
+    subst (λ (n : ℕ). RisesMost (run_most s job) n new.moves) moves
+    (most_of (load_rows m.shape (loads_left m)) (run_most s job) done _ _ (omega (arith, rows, all)) few)

@@ -4,14 +4,13 @@ use Rattle.std.proofs.Math.Nat.{mul-le-mul_left, mul-le-mul_right}
 use Rattle.std.proofs.Math.Pow.{pow_mono}
 use Rattle.bm_base.specs.declared.shape.Shape.{Shape}
 use Rattle.bm_base.specs.Contents.{page_unit, page_at}
-use Rattle.bm_base.specs.Count.{raised}
-use Rattle.bm_base.proofs.CaseLemmas.{raised_both}
 use Rattle.bm_base.specs.Shape.{dims_of, stripes, load_stripes, loads_of}
 use Rattle.bm_base.proofs.ShapeLemmas.{loads_rows}
 use Rattle.bm_rack.specs.RackView.{RackView, IsWellFormed}
 use Rattle.bm_rack.specs.Image.{SameInput}
 use Rattle.bm_rack.specs.Frames.{DirtiesOnly, Keeps, RackCall, MakesCalls}
-use Rattle.bm_rack.proofs.FrameLemmas.{DirtiesOnly-wider, DirtiesOnly-trans, Keeps-refl, Keeps-trans, HasCause-later, raised-zero}
+use Rattle.bm_rack.proofs.CallLemmas.{MakesCalls-refl, MakesCalls-trans, MakesCalls-weaker, most_of}
+use Rattle.bm_rack.proofs.FrameLemmas.{DirtiesOnly-wider, DirtiesOnly-trans, Keeps-refl, Keeps-trans, HasCause-later}
 use Rattle.bm_pass.proofs.PassLemmas.{rows_of_pass}
 use Rattle.bm_control.specs.Bodies.{IsPassBody}
 use Rattle.bm_control.specs.Pages.{pass_body}
@@ -22,17 +21,11 @@ use Rattle.bm_job.specs.Turns.{SameJob, IsNextOf, IsTurnUnit, IsBadBody, form_pa
 use Rattle.bm_job.specs.Runs.{IsWorkUnit, turn_pages, turn_syncs, loads_left, load_rows, IsReached}
 use Rattle.bm_job.proofs.RangeLemmas.{few_passes}
 use Rattle.bm_job.proofs.PaceLemmas.{pages_spent, syncs_spent, turn_pages_few, turn_syncs_few, turn_pages_paid, turn_syncs_paid}
-use Rattle.bm_job.proofs.PaceLemmas.{end_pages_few, end_syncs_few, counted_grows, load_left, loads_all, moved_near}
+use Rattle.bm_job.proofs.PaceLemmas.{end_pages_few, end_syncs_few}
+use Rattle.bm_job.proofs.LeftLemmas.{counted_grows, load_left, loads_all, moved_near}
 use Rattle.bm_job.proofs.WorkUnitLemmas.{turn_work, body_kept}
 
 -- ---- counts
-
--- a count after two calls
-raised_sum : (a b c k j total : ℕ) → b ≡ raised a k → c ≡ raised b j → k + j ≡ total → c ≡ raised a total
-raised_sum a b c k j total first second room = omega (arith, first, second, room)
-
-pub raised_most : (a b k total : ℕ) → b ≤ raised a k → k ≤ total → b ≤ raised a total
-raised_most a b k total first room = omega (arith, first, room)
 
 -- the input is the same after two calls
 pub same_input_then : (s : Shape) (a b c : RackView) → SameInput (dims_of s) a b → SameInput (dims_of s) b c → SameInput (dims_of s) a c
@@ -55,21 +48,17 @@ pub record OnWay (told_stands told_contents : Bool) (start now : Machine) (old n
   pub frame : DirtiesOnly (IsWorkUnit start.shape) old new
   pub keeps : Keeps old new
   pub input : SameInput (dims_of start.shape) old new
-  pub moves : new.moves ≡ raised old.moves (load_rows start.shape (loads_moved now - loads_moved start))
-  pub moves_low : old.moves ≤ new.moves
-  pub pages_low : old.pages ≤ new.pages
-  pub pages_high : new.pages ≤ raised old.pages (pages_spent now)
-  pub syncs_low : old.syncs ≤ new.syncs
-  pub syncs_high : new.syncs ≤ raised old.syncs (syncs_spent now)
+  pub counts : MakesCalls (Unit {0}) (load_rows start.shape (loads_moved now - loads_moved start)) (pages_spent now) (syncs_spent now)
+      old new
 
 -- no turn yet
 pub on_way_start : (told_stands told_contents : Bool) (m : Machine) (v : RackView) → IsWellFormed told_stands told_contents v
     → IsTrue m.alive
     → OnWay told_stands told_contents m m v v
 on_way_start told_stands told_contents m v well alive =
-    let fm = well.moves in
-    let fp = well.pages in
-    let fs = well.syncs in
+    let zero : 0 ≡ load_rows m.shape 0 = omega arith in
+    let none : 0 ≡ load_rows m.shape (loads_moved m - loads_moved m) = zero
+    ∙ ap (λ (k : ℕ). load_rows m.shape k) (let e : 0 ≡ loads_moved m - loads_moved m = omega arith in e) in
     record {
       same = record { shape = refl; job = refl; passes = refl; every = refl };
       alive = alive;
@@ -79,14 +68,8 @@ on_way_start told_stands told_contents m v well alive =
       frame = record { stands = refl; attached = refl; contents = λ u h. refl; dirty = λ u h clean. clean };
       keeps = Keeps-refl v;
       input = same_input_none m.shape v;
-      moves = (let none : load_rows m.shape (loads_moved m - loads_moved m) ≡ 0 = (let e : loads_moved m - loads_moved m ≡ 0 = omega
-          arith in ap (λ (k : ℕ). load_rows m.shape k) e ∙ (let f : load_rows m.shape 0 ≡ 0 = omega arith in f)) in
-          sym (ap (λ (k : ℕ). raised v.moves k) none ∙ raised-zero v.moves fm));
-      moves_low = omega arith;
-      pages_low = omega arith;
-      pages_high = omega (arith, fp);
-      syncs_low = omega arith;
-      syncs_high = omega (arith, fs);
+      counts = MakesCalls-weaker 0 0 0 (load_rows m.shape (loads_moved m - loads_moved m)) (pages_spent m) (syncs_spent m) (Unit {0})
+          (Unit {0}) v v (omega arith) (omega arith) (omega arith) (λ _. (tt, none)) (MakesCalls-refl _ _ (Unit {0}) v well);
     }
 
 -- both are of the same job as the first
@@ -108,6 +91,17 @@ turn_input_of : (s : Shape) (m : Machine) (old new : RackView) → m.shape ≡ s
     → SameInput (dims_of s) old new
 turn_input_of s m old new same x = subst (λ (t : Shape). SameInput (dims_of t) old new) same x
 
+-- the calls so far and those of a turn
+so_far : (told_stands told_contents : Bool) (start now : Machine) (old mid new : RackView) (succeeds : Type 0)
+    → OnWay told_stands told_contents start now old mid
+    → MakesCalls succeeds (2 * load_stripes now.shape) (form_pages now.form + durable_pages now) (durable_syncs now) mid new
+    → MakesCalls succeeds (load_rows start.shape (loads_moved now - loads_moved start) + 2 * load_stripes now.shape)
+    (pages_spent now + (form_pages now.form + durable_pages now)) (syncs_spent now + durable_syncs now) old new
+so_far told_stands told_contents start now old mid new succeeds o c =
+    MakesCalls-trans (load_rows start.shape (loads_moved now - loads_moved start)) (pages_spent now) (syncs_spent now)
+    (2 * load_stripes now.shape) (form_pages now.form + durable_pages now) (durable_syncs now) (Unit {0}) succeeds old mid new (λ _. tt)
+    o.counts c
+
 -- a turn more
 pub on_way_next : (told_stands told_contents : Bool) (start now next : Machine) (old mid new : RackView) (failed succeeds : Type 0)
     → OnWay told_stands told_contents start now old mid → IsNextOf now next → loads_moved next ≡ loads_moved now + 1
@@ -118,10 +112,11 @@ pub on_way_next : (told_stands told_contents : Bool) (start now next : Machine) 
 on_way_next told_stands told_contents start now next old mid new failed succeeds o n moved follows call input ok c =
     let further = o.further in
     let shape = o.same.shape in
-    let low = o.pages_low in
-    let low2 = c.pages_low in
-    let slow = o.syncs_low in
-    let slow2 = c.syncs_low in
+    let k = loads_moved now - loads_moved start in
+    let one : loads_moved next - loads_moved start ≡ k + 1 = omega (arith, further, moved) in
+    let rows : load_rows start.shape k + 2 * load_stripes now.shape ≡ load_rows start.shape (loads_moved next - loads_moved start) =
+    ap (λ (t : Shape). load_rows start.shape k + 2 * load_stripes t) shape ∙ rows_next start.shape k
+    ∙ ap (λ (j : ℕ). load_rows start.shape j) (sym one) in
     record {
       same = same_job_then start now next o.same n.same;
       alive = n.alive;
@@ -131,19 +126,9 @@ on_way_next told_stands told_contents start now next old mid new failed succeeds
       frame = DirtiesOnly-trans (IsWorkUnit start.shape) _ _ _ o.frame (turn_frame start.shape now mid new shape call.frame);
       keeps = Keeps-trans _ _ _ o.keeps call.keeps;
       input = same_input_then start.shape _ _ _ o.input (turn_input_of start.shape now mid new shape input);
-      moves = (let k = loads_moved now - loads_moved start in
-          let rows : 2 * load_stripes now.shape ≡ 2 * load_stripes start.shape = ap (λ (t : Shape). 2 * load_stripes t) shape in
-          let one : loads_moved next - loads_moved start ≡ k + 1 = omega (arith, further, moved) in
-          raised_sum _ _ _ (load_rows start.shape k) (2 * load_stripes now.shape)
-          (load_rows start.shape (loads_moved next - loads_moved start)) o.moves (c.done ok)
-          (ap (λ (r : ℕ). load_rows start.shape k + r) rows ∙ rows_next start.shape k ∙ ap (λ (j : ℕ). load_rows start.shape j) (sym one)));
-      moves_low = (let a = o.moves_low in let b = c.moves_low in omega (arith, a, b));
-      pages_low = omega (arith, low, low2);
-      pages_high = raised_both _ _ _ (pages_spent now) (form_pages now.form + durable_pages now) (pages_spent next) o.pages_high
-          c.pages_high (turn_pages_paid now next n);
-      syncs_low = omega (arith, slow, slow2);
-      syncs_high = raised_both _ _ _ (syncs_spent now) (durable_syncs now) (syncs_spent next) o.syncs_high c.syncs_high
-          (turn_syncs_paid now next n);
+      counts = MakesCalls-weaker _ _ _ _ (pages_spent next) (syncs_spent next) succeeds (Unit {0}) old new (omega (arith, rows))
+          (turn_pages_paid now next n) (turn_syncs_paid now next n) (λ _. (ok, rows))
+          (so_far told_stands told_contents start now old mid new succeeds o c);
     }
 
 -- fewer loads are left
@@ -175,19 +160,11 @@ pub end_calls : (told_stands told_contents : Bool) (start now : Machine) (old ne
     (turn_syncs start.shape start.passes start.every) old new
 end_calls told_stands told_contents start now old new succeeds o end =
     let all : loads_moved now ≡ start.passes * loads_of start.shape = loads_all now end ∙ loads_of_start start now o.same in
-    let moves : new.moves ≡ raised old.moves (load_rows start.shape (loads_left start)) = o.moves
-    ∙ ap (λ (k : ℕ). raised old.moves (load_rows start.shape (k - loads_moved start))) all in
-    record {
-      done = λ _. moves;
-      moves_low = o.moves_low;
-      moves_high = omega (arith, moves);
-      pages_low = o.pages_low;
-      pages_high = raised_most _ _ _ _ o.pages_high (subst (λ (k : ℕ). pages_spent now ≤ k) (pages_of_start start now o.same)
-          (end_pages_few now end));
-      syncs_low = o.syncs_low;
-      syncs_high = raised_most _ _ _ _ o.syncs_high (subst (λ (k : ℕ). syncs_spent now ≤ k) (syncs_of_start start now o.same)
-          (end_syncs_few now end));
-    }
+    let rows : load_rows start.shape (loads_moved now - loads_moved start) ≡ load_rows start.shape (loads_left start) =
+    ap (λ (k : ℕ). load_rows start.shape (k - loads_moved start)) all in
+    MakesCalls-weaker _ (pages_spent now) (syncs_spent now) _ _ _ (Unit {0}) succeeds old new (omega (arith, rows))
+    (subst (λ (k : ℕ). pages_spent now ≤ k) (pages_of_start start now o.same) (end_pages_few now end))
+    (subst (λ (k : ℕ). syncs_spent now ≤ k) (syncs_of_start start now o.same) (end_syncs_few now end)) (λ _. (tt, rows)) o.counts
 
 -- the calls so far, and those of a turn that failed
 pub failed_calls : (told_stands told_contents : Bool) (start now : Machine) (old mid new : RackView) (first succeeds : Type 0)
@@ -196,12 +173,6 @@ pub failed_calls : (told_stands told_contents : Bool) (start now : Machine) (old
     → MakesCalls succeeds (load_rows start.shape (loads_left start)) (turn_pages start.shape start.passes start.every)
     (turn_syncs start.shape start.passes start.every) old new
 failed_calls told_stands told_contents start now old mid new first succeeds o left fails c =
-    let low = o.moves_low in
-    let low2 = c.moves_low in
-    let plow = o.pages_low in
-    let plow2 = c.pages_low in
-    let slow = o.syncs_low in
-    let slow2 = c.syncs_low in
     let further = o.further in
     let k = loads_moved now - loads_moved start in
     let rows : 2 * load_stripes now.shape ≡ 2 * load_stripes start.shape = ap (λ (t : Shape). 2 * load_stripes t) o.same.shape in
@@ -210,19 +181,12 @@ failed_calls told_stands told_contents start now old mid new first succeeds o le
     let within : load_rows start.shape (k + 1) ≤ load_rows start.shape (loads_left start) = mul-le-mul_left (2 * load_stripes start.shape)
     (omega (arith, most, all, further)) in
     let one = rows_next start.shape k in
-    record {
-      done = λ ok. absurd (fails ok);
-      moves_low = omega (arith, low, low2);
-      moves_high = raised_both _ _ _ (load_rows start.shape k) (2 * load_stripes now.shape) (load_rows start.shape (loads_left start))
-          (let m = o.moves in omega (arith, m)) c.moves_high (omega (arith, rows, within, one));
-      pages_low = omega (arith, plow, plow2);
-      pages_high = raised_both _ _ _ (pages_spent now) (form_pages now.form + durable_pages now) _ o.pages_high c.pages_high
-          (subst (λ (k : ℕ). pages_spent now + (form_pages now.form + durable_pages now) ≤ k) (pages_of_start start now o.same)
-          (turn_pages_few now left));
-      syncs_low = omega (arith, slow, slow2);
-      syncs_high = raised_both _ _ _ (syncs_spent now) (durable_syncs now) _ o.syncs_high c.syncs_high
-          (subst (λ (k : ℕ). syncs_spent now + durable_syncs now ≤ k) (syncs_of_start start now o.same) (turn_syncs_few now left));
-    }
+    MakesCalls-weaker _ _ _ (load_rows start.shape (loads_left start)) (turn_pages start.shape start.passes start.every)
+    (turn_syncs start.shape start.passes start.every) first succeeds old new (omega (arith, rows, within, one))
+    (subst (λ (k : ℕ). pages_spent now + (form_pages now.form + durable_pages now) ≤ k) (pages_of_start start now o.same)
+    (turn_pages_few now left))
+    (subst (λ (k : ℕ). syncs_spent now + durable_syncs now ≤ k) (syncs_of_start start now o.same) (turn_syncs_few now left))
+    (λ ok. absurd (fails ok)) (so_far told_stands told_contents start now old mid new first o c)
 
 -- how far they came
 pub reached_of : (told_stands told_contents : Bool) (start now : Machine) (old mid new : RackView) (first : Type 0) (gone : ℕ)
@@ -241,9 +205,8 @@ reached_of told_stands told_contents start now old mid new first gone o c sure =
     let one = rows_next start.shape k in
     record {
       counted = omega (arith, counted, sure);
-      rows = raised_both _ _ _ (load_rows start.shape k) (2 * load_stripes now.shape)
-          (load_rows start.shape (gone + start.every - loads_moved start)) (let m = o.moves in omega (arith, m)) c.moves_high
-          (omega (arith, rows, within, one));
+      rows = (most_of _ _ first _ _ (omega (arith, rows, within, one))
+          (so_far told_stands told_contents start now old mid new first o c).moves).high;
     }
 
 -- the calls so far and one that failed

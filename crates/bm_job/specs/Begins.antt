@@ -10,7 +10,7 @@ use Rattle.bm_control.specs.declared.state.SlateState.{SlateState}
 use Rattle.bm_control.specs.declared.state.SlateState.TheVariants.{Closed, Loaded, Working}
 use Rattle.bm_control.specs.declared.state.ControlError.TheVariants as control
 use Rattle.bm_control.specs.Pages.{HasOpenLoad, HasOpenJob, HasClosedJob, HasLoadBody, HasJobBody, no_slot}
-use Rattle.bm_control.specs.PageCalls.{MakesPageCalls}
+use Rattle.bm_rack.specs.Frames.{MakesPageCalls}
 use Rattle.bm_control.specs.State.{StateAnswer, HasPassBody}
 use Rattle.bm_job.specs.declared.machine.Machine.{Machine}
 use Rattle.bm_job.specs.declared.answers.RunError.{RunError}

@@ -15,6 +15,7 @@ use Rattle.bm_forms.specs.declared.job.Job.{Job}
 use Rattle.bm_forms.specs.Job.{meaning}
 use Rattle.bm_forms.specs.PassLimit.{limit_of}
 use Rattle.bm_rack.specs.RackView.{RackView, IsClean}
+use Rattle.bm_rack.specs.Frames.{CallsFew}
 use Rattle.bm_rack.specs.Image.{IsImage, InEveryImage}
 use Rattle.bm_stripe.specs.Units.{IsAreaUnit}
 use Rattle.bm_control.specs.declared.state.SlateState.TheVariants.{Loaded, Working}
@@ -75,13 +76,6 @@ most_pages s job = 517 + limit_of s job * (2 + 4 * (loads_of s - 1))
 
 abbrev pub most_syncs : Shape → Job → ℕ
 most_syncs s job = 3 + limit_of s job * (2 + 3 * (loads_of s - 1))
-
--- no more page calls and syncs than these
-pub record CallsFew (pages syncs : ℕ) (old new : RackView) : Type 0 where
-  pub pages_low : old.pages ≤ new.pages
-  pub pages_high : new.pages ≤ raised old.pages pages
-  pub syncs_low : old.syncs ≤ new.syncs
-  pub syncs_high : new.syncs ≤ raised old.syncs syncs
 
 -- The page calls and syncs at most, whatever is answered: by the plan's passes and the call's number of loads where no job is open or its
 -- body is none, else by the open job's.
@@ -208,11 +202,6 @@ pub record KeepsOpenJob (old new : RackView) : Type 0 where
   pub gate : page_at new.contents job_gate ≡ page_at old.contents job_gate
   pub body_clean : new.dirty (page_unit job_body) ≡ false
   pub gate_clean : new.dirty (page_unit job_gate) ≡ false
-
--- no fewer row calls than before, and at most so many more
-pub record MovesFew (rows : ℕ) (old new : RackView) : Type 0 where
-  pub low : old.moves ≤ new.moves
-  pub high : new.moves ≤ raised old.moves rows
 
 -- What an image after turns that failed says: it has gone as far as the first machine had counted, and the row calls are those of the loads
 -- to there, of fewer than `every` more, and of one that failed.

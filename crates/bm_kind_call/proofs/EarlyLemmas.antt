@@ -3,9 +3,8 @@ use Rattle.std.proofs.Common.{◌≡◌, ◌≢◌, inl, ◌+◌, ◌*◌, Bool,
 use Rattle.bm_base.specs.Count.{Rose}
 use Rattle.bm_base.specs.Shape.{dims_of, stripes}
 use Rattle.bm_rack.specs.RackView.{RackView, IsWellFormed}
-use Rattle.bm_rack.specs.Frames.{RaisesCounts, Keeps}
+use Rattle.bm_rack.specs.Frames.{RaisesCounts, Keeps, MovesFew}
 use Rattle.bm_rack.specs.Sink.{AppendsFront}
-use Rattle.bm_job.specs.Runs.{MovesFew}
 use Rattle.bm_disks.specs.declared.load_error.LoadError.{LoadError}
 use Rattle.bm_disks.specs.declared.load_error.LoadError.TheVariants as load
 use Rattle.bm_kindjob.specs.declared.kind_file.KindFile.{KindFile}
@@ -21,7 +20,8 @@ use Rattle.bm_top.specs.declared.status.Status.{Status}
 use Rattle.bm_top.specs.declared.status.Status.TheVariants.{Done, OutOfMemory, SinkFault}
 use Rattle.bm_top.proofs.CarryDisksLemmas.{carry_not_made}
 use Rattle.bm_top.proofs.CarryLoadLemmas.{LoadedBy, carry_not_loaded}
-use Rattle.bm_top.proofs.ExitLemmas.{MovesFew-same, AppendsFront-none}
+use Rattle.bm_top.proofs.ExitLemmas.{AppendsFront-none}
+use Rattle.bm_rack.proofs.CallLemmas.{MovesFew-same, most_between}
 use Rattle.bm_top.proofs.MemoryLemmas.{memory_refused}
 use Rattle.bm_top.proofs.SameDisksLemmas.{calls_kept}
 use Rattle.bm_top.proofs.StepAnswerLemmas.{disks_not_done, disks_no_sink, load_not_done, load_no_sink}
@@ -100,6 +100,4 @@ kind_not_loaded t file old mid new e made by =
         let p = walsh_passes s in
         let sum : 2 * stripes s * (p + 1) ≡ 2 * stripes s * p + 2 * stripes s = omega arith in
         let same = made.calls.moves in
-        let low = by.counts.moves_low in
-        let high = by.counts.moves_high in
-        rw sum (record { low = omega (arith, low, same); high = omega (arith, high, same) })
+        rw sum (most_between _ _ _ (omega (arith, by.counts.moves.low, same)) (omega (arith, by.counts.moves.high, same)))

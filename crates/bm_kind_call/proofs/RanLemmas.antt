@@ -31,13 +31,14 @@ use Rattle.bm_kindjob.specs.KindRun.{IsWorkBlock}
 use Rattle.bm_kindjob.proofs.SoundLemmas.{work_no_page, input_no_work}
 use Rattle.bm_top.specs.Causes.{CauseOf}
 use Rattle.bm_top.specs.Moment.{SinkView, Devices, Tells, TellsRack}
-use Rattle.bm_top.specs.Status.{IsBeforeDisks, IsOfInput}
+use Rattle.bm_top.specs.Status.{IsBeforeDisks}
 use Rattle.bm_top.specs.commands.Carry.{IsLoadedFrom}
 use Rattle.bm_top.specs.declared.words.Verb.TheVariants.{Carry}
 use Rattle.bm_top.specs.declared.status.Status.TheVariants.{RackFault}
 use Rattle.bm_top.proofs.CarryWholeLemmas.{whole_loaded}
 use Rattle.bm_top.proofs.DumpLemmas.{AreaDumped, dump_answer, dumped_ok, dumped_failed, dumped_complete, dump_no_input}
-use Rattle.bm_top.proofs.ExitLemmas.{CallsGrow-trans, AppendsFront-none}
+use Rattle.bm_top.proofs.ExitLemmas.{AppendsFront-none}
+use Rattle.bm_rack.proofs.CallLemmas.{CallsGrow-trans, CallsGrow-rows, most_between}
 use Rattle.bm_top.proofs.FaultLemmas.{cause_later}
 use Rattle.bm_kind_call.specs.Exits.{shape_task, KindMay, KindCall}
 use Rattle.bm_kind_call.specs.Kinds.{named_kind, walsh_passes, kinded, KindRan, KindStands}
@@ -108,7 +109,7 @@ kind_not_run t file d old mid new passes e same loaded ran = record {
     stood = inr loaded.stood;
     exists = λ is. absurd (cc);
     memory = λ is. absurd (cc);
-    moves = record { low = rows.0; high = rows.1 };
+    moves = most_between _ _ _ rows.0 rows.1;
   };
   each = record {
     sound = λ told sound. ran.sound told (no_job t file old (record d { rack = mid }) loaded told.1) (loaded.sound told);
@@ -117,7 +118,7 @@ kind_not_run t file d old mid new passes e same loaded ran = record {
     fault = cause_later _ _ old.rack mid new (λ is. refl) loaded.keeps ran.cause;
     calls = λ of. absurd of;
     grow = CallsGrow-trans old.rack mid new loaded.grow
-        (record { moves = ran.moved.low; pages = omega (arith, ran.moved.pages); syncs = omega (arith, ran.moved.syncs) });
+        (CallsGrow-rows _ _ mid new ran.moved);
     unattached = λ is. absurd (cc);
     few = loaded.few;
     input_faults = loaded.input_faults;
@@ -129,7 +130,7 @@ kind_not_run t file d old mid new passes e same loaded ran = record {
   where
     rows : (old.rack.moves ≤ new.moves) × (new.moves ≤ raised old.rack.moves (2 * stripes file.shape * (walsh_passes file.shape + 1)))
     rows = run_rows old.rack.moves mid.moves new.moves (stripes file.shape) passes (walsh_passes file.shape) same loaded.grow.moves
-        ran.moved.low loaded.moves ran.moved.high
+        ran.moved.moves.low loaded.moves ran.moved.moves.high
 
 -- ---- an output
 
@@ -168,7 +169,7 @@ kind_dumped t file d old mid look new out out' passes moves area r fits same at 
         ∙ ap (λ (xs : List ℕ). xs ++ kinded file old.input.left) taken;
     sums = λ x below. kernel_over-kind (named_kind file.kind) file.shape.n file.set (record_in file.shape old.input.left) fits.set x below;
     moves = all_rows old.rack.moves mid.moves look.moves new.moves (stripes file.shape) passes (walsh_passes file.shape) same loaded.moves
-        (ran.moved.done refl) (k.moved.done (dumped_ok r is));
+        (ran.moved.moves.done refl) (k.moved.moves.done (dumped_ok r is));
     after = after;
   };
   leaves = record {
@@ -186,7 +187,7 @@ kind_dumped t file d old mid look new out out' passes moves area r fits same at 
     stood = inr loaded.stood;
     exists = λ is. absurd (dumped_late r (subst IsBeforeDisks (sym is) tt));
     memory = λ is. absurd (dumped_late r (subst IsBeforeDisks (sym is) tt));
-    moves = record { low = rows.0; high = rows.1 };
+    moves = most_between _ _ _ rows.0 rows.1;
   };
   each = record {
     sound = λ told sound. sound_same look new k.state
@@ -199,9 +200,7 @@ kind_dumped t file d old mid look new out out' passes moves area r fits same at 
     };
     calls = λ of. absurd (dumped_late r of);
     grow = CallsGrow-trans old.rack mid new loaded.grow
-        (CallsGrow-trans mid look new
-        (record { moves = ran.moved.low; pages = omega (arith, ran.moved.pages); syncs = omega (arith, ran.moved.syncs) })
-        (record { moves = k.moved.low; pages = omega (arith, k.moved.pages); syncs = omega (arith, k.moved.syncs) }));
+        (CallsGrow-trans mid look new (CallsGrow-rows _ _ mid look ran.moved) (CallsGrow-rows _ _ look new k.moved));
     unattached = λ is. absurd (dumped_late r (subst IsBeforeDisks (sym is) tt));
     few = loaded.few;
     input_faults = loaded.input_faults;
@@ -256,5 +255,5 @@ kind_dumped t file d old mid look new out out' passes moves area r fits same at 
     }
 
     rows : (old.rack.moves ≤ new.moves) × (new.moves ≤ raised old.rack.moves (2 * stripes file.shape * (walsh_passes file.shape + 1)))
-    rows = few_rows old.rack.moves mid.moves look.moves new.moves (stripes file.shape) passes (walsh_passes file.shape) same loaded.grow.moves
-        ran.moved.low k.moved.low loaded.moves ran.moved.high k.moved.high
+    rows = few_rows old.rack.moves mid.moves look.moves new.moves (stripes file.shape) passes (walsh_passes file.shape) same
+        loaded.grow.moves ran.moved.moves.low k.moved.moves.low loaded.moves ran.moved.moves.high k.moved.moves.high

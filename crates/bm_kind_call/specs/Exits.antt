@@ -6,7 +6,7 @@ use Rattle.bm_base.specs.Shape.{dims_of, stripes, input_size}
 use Rattle.bm_forms.specs.declared.job.Job.TheVariants.{Walsh}
 use Rattle.bm_rack.specs.Image.{InEveryImage}
 use Rattle.bm_rack.specs.Sink.{AppendsFront}
-use Rattle.bm_job.specs.Runs.{MovesFew}
+use Rattle.bm_rack.specs.Frames.{MovesFew}
 use Rattle.bm_kindjob.specs.declared.kind_file.KindFile.{KindFile}
 use Rattle.bm_top.specs.Causes.{CauseOf}
 use Rattle.bm_top.specs.Disks.{SameOrNewDisks}

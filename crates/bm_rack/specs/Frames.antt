@@ -12,40 +12,78 @@ pub record Keeps (old new : RackView) : Type 0 where
   pub sure : IsTrue old.steady → IsFalse old.stopping → new.faults ≡ old.faults
   pub lasting : (fact : List ℕ) → IsTrue (old.lasting fact) → IsTrue (new.lasting fact)
 
--- so many row calls, page calls and syncs were made
-pub record RaisesCounts (m p s : ℕ) (old new : RackView) : Type 0 where
-  pub moves : new.moves ≡ raised old.moves m
-  pub pages : new.pages ≡ raised old.pages p
-  pub syncs : new.syncs ≡ raised old.syncs s
+-- ---- how many calls
 
--- So many row calls where it succeeds. However it ends, no fewer calls than before, and at most so many row calls, page calls and syncs.
-pub record MakesCalls (succeeds : Type 0) (rows pages syncs : ℕ) (old new : RackView) : Type 0 where
-  pub done : succeeds → new.moves ≡ raised old.moves rows
-  pub moves_low : old.moves ≤ new.moves
-  pub moves_high : new.moves ≤ raised old.moves rows
-  pub pages_low : old.pages ≤ new.pages
-  pub pages_high : new.pages ≤ raised old.pages pages
-  pub syncs_low : old.syncs ≤ new.syncs
-  pub syncs_high : new.syncs ≤ raised old.syncs syncs
+-- of a count: it is as before, it never falls, it rises by so much, and by so much at least
+abbrev pub Stays : ℕ → ℕ → Type 0
+Stays old new = new ≡ old
+
+abbrev pub Grows : ℕ → ℕ → Type 0
+Grows old new = old ≤ new
+
+abbrev pub Rises : ℕ → ℕ → ℕ → Type 0
+Rises by old new = new ≡ raised old by
+
+abbrev pub RisesLeast : ℕ → ℕ → ℕ → Type 0
+RisesLeast least old new = raised old least ≤ new
+
+-- It rises by so much where it is done. However it ends, it never falls and rises by no more.
+pub record RisesWhere (finished : Type 0) (most : ℕ) (old new : ℕ) : Type 0 where
+  pub done : finished → Rises most old new
+  pub low : Grows old new
+  pub high : new ≤ raised old most
+
+-- at most so much
+abbrev pub RisesMost : ℕ → ℕ → ℕ → Type 0
+RisesMost most old new = RisesWhere ⊥ most old new
+
+-- at least and at most so much
+pub record RisesWithin (least most : ℕ) (old new : ℕ) : Type 0 where
+  pub low : RisesLeast least old new
+  pub high : new ≤ raised old most
+
+-- What becomes of the counts of row calls, page calls and syncs. All clauses on counts of calls say it by this record.
+pub record CallCounts (R P S : ℕ → ℕ → Type 0) (old new : RackView) : Type 0 where
+  pub moves : R old.moves new.moves
+  pub pages : P old.pages new.pages
+  pub syncs : S old.syncs new.syncs
+
+-- so many row calls, page calls and syncs were made
+abbrev pub RaisesCounts : ℕ → ℕ → ℕ → RackView → RackView → Type 0
+RaisesCounts m p s old new = CallCounts (Rises m) (Rises p) (Rises s) old new
+
+-- no row call, page call and sync was made, or the counts stand still at their end
+abbrev pub SameCalls : RackView → RackView → Type 0
+SameCalls old new = CallCounts Stays Stays Stays old new
+
+-- no count of calls fell
+abbrev pub CallsGrow : RackView → RackView → Type 0
+CallsGrow old new = CallCounts Grows Grows Grows old new
 
 -- so many row calls where it is finished and at most as many otherwise, and no other call
-pub record MovesRows (rows : ℕ) (finished : Type 0) (old new : RackView) : Type 0 where
-  pub done : finished → new.moves ≡ raised old.moves rows
-  pub low : old.moves ≤ new.moves
-  pub high : new.moves ≤ raised old.moves rows
-  pub pages : new.pages ≡ old.pages
-  pub syncs : new.syncs ≡ old.syncs
+abbrev pub MovesRows : ℕ → Type 0 → RackView → RackView → Type 0
+MovesRows rows finished old new = CallCounts (RisesWhere finished rows) Stays Stays old new
+
+-- so many page calls and syncs where it is finished and at most as many otherwise, and no row call
+abbrev pub MakesPageCalls : Type 0 → ℕ → ℕ → RackView → RackView → Type 0
+MakesPageCalls finished p s old new = CallCounts Stays (RisesWhere finished p) (RisesWhere finished s) old new
+
+-- so many row calls where it is finished, and however it ends at most so many of each kind
+abbrev pub MakesCalls : Type 0 → ℕ → ℕ → ℕ → RackView → RackView → Type 0
+MakesCalls finished rows pages syncs old new = CallCounts (RisesWhere finished rows) (RisesMost pages) (RisesMost syncs) old new
+
+-- at most so many row calls, and nothing said of others
+abbrev pub MovesFew : ℕ → RackView → RackView → Type 0
+MovesFew rows old new = RisesMost rows old.moves new.moves
+
+-- at most so many page calls and syncs
+abbrev pub CallsFew : ℕ → ℕ → RackView → RackView → Type 0
+CallsFew pages syncs old new = CallCounts Grows (RisesMost pages) (RisesMost syncs) old new
 
 -- a failed call has its cause, and a steady rack that isn't stopping fails no call
 pub record HasCause (failed : Type 0) (old new : RackView) : Type 0 where
   pub rose : failed → Rose old.faults new.faults
   pub sure : IsTrue old.steady → IsFalse old.stopping → ¬ failed
-
--- no row call, page call and sync was made, or the counts stand still at their end
-pub record SameCalls (old new : RackView) : Type 0 where
-  pub moves : new.moves ≡ old.moves
-  pub pages : new.pages ≡ old.pages
-  pub syncs : new.syncs ≡ old.syncs
 
 -- what stands, its bytes and what is dirty are as before
 pub record SameDisks (old new : RackView) : Type 0 where

@@ -11,14 +11,15 @@ use Rattle.bm_top.specs.Causes.{CauseOf, Attaches}
 use Rattle.bm_top.specs.Disks.{AttachRefusal, disks_status}
 use Rattle.bm_top.specs.Exits.{AttachedFrom}
 use Rattle.bm_top.specs.Moment.{Devices, Tells}
-use Rattle.bm_top.specs.Status.{IsOfInput, IsOfSlate}
+use Rattle.bm_top.specs.Status.{IsOfSlate}
 use Rattle.bm_top.specs.TopCall.{TaskCall, NoFaults, IsDoneUnlessMemory, may_of, leaves_of, case_of}
 use Rattle.bm_top.specs.commands.Run.{NoSession}
 use Rattle.bm_top.specs.declared.task.Task.{Task}
 use Rattle.bm_top.specs.declared.words.Verb.{Verb}
 use Rattle.bm_top.specs.declared.words.Verb.TheVariants.{New, Load, Plan, Run, Status, Dump, Drop, Detect, Carry, Drill}
-use Rattle.bm_top.specs.declared.status.Status.TheVariants.{Done, RackFault, SinkFault}
-use Rattle.bm_top.proofs.ExitLemmas.{KeepsUnits-same, SameInput-same, MovesFew-same, CallsFew-same, CallsGrow-same, IsRead-none}
+use Rattle.bm_top.specs.declared.status.Status.TheVariants.{RackFault}
+use Rattle.bm_top.proofs.ExitLemmas.{KeepsUnits-same, SameInput-same, IsRead-none}
+use Rattle.bm_rack.proofs.CallLemmas.{CallsGrow-same, MovesFew-same, CallsFew-same}
 use Rattle.bm_top.proofs.SameDisksLemmas.{sound_kept, calls_kept}
 use Rattle.bm_top.proofs.OpensLemmas.{opens_same}
 use Rattle.bm_top.proofs.StepAnswerLemmas.{disks_no_input, disks_no_sink, disks_not_done}

@@ -1,18 +1,17 @@
 -- What is told of the moment of the attach is told of the moment before it.
-use Rattle.std.proofs.Common.{◌≡◌, inl, ℕ, ◌+◌, ◌≤◌, Bool, IsTrue, Some, sym, ap, subst, ◌∙◌, arith}
+use Rattle.std.proofs.Common.{◌≡◌, inl, ℕ, ◌+◌, ◌≤◌, Bool, IsTrue, Some, sym, ap, subst, ◌∙◌}
 use Rattle.bm_base.specs.declared.dims.Dims.{Dims}
 use Rattle.bm_base.specs.Contents.{RackUnit, unit_at}
-use Rattle.bm_base.specs.Count.{raised}
 use Rattle.bm_base.specs.Shape.{dims_of, input_size}
 use Rattle.bm_rack.specs.RackView.{RackView, IsWellFormed}
-use Rattle.bm_rack.specs.Frames.{SameDisks, Keeps, HasCause, DirtiesOnly}
+use Rattle.bm_rack.specs.Frames.{SameDisks, Keeps, HasCause, DirtiesOnly, CallsGrow, MovesFew, RisesMost}
 use Rattle.bm_rack.specs.Image.{SameInput}
 use Rattle.bm_rack.proofs.FrameLemmas.{Keeps-trans, HasCause-later}
 use Rattle.bm_control.specs.Sound.{IsSound}
-use Rattle.bm_job.specs.Runs.{MovesFew, SameContents}
+use Rattle.bm_job.specs.Runs.{SameContents}
 use Rattle.bm_disks.specs.Input.{IsRead}
 use Rattle.bm_top.specs.Causes.{HasDisks, GoesOn, Attaches}
-use Rattle.bm_top.specs.Exits.{CallsGrow, AttachedFrom, KeepsUnits, EachExit}
+use Rattle.bm_top.specs.Exits.{AttachedFrom, KeepsUnits, EachExit}
 use Rattle.bm_top.specs.Status.{IsBeforeDisks}
 use Rattle.bm_top.specs.Moment.{Devices, Tells, TellsRack}
 use Rattle.bm_top.specs.declared.task.Task.{Task}
@@ -20,7 +19,7 @@ use Rattle.bm_top.specs.declared.words.Verb.{Verb}
 use Rattle.bm_top.specs.declared.words.Verb.TheVariants as verbs
 use Rattle.bm_top.specs.declared.status.Status.{Status}
 use Rattle.bm_top.specs.declared.status.Status.TheVariants.{RackFault}
-use Rattle.bm_top.proofs.ExitLemmas.{CallsGrow-same, CallsGrow-trans}
+use Rattle.bm_rack.proofs.CallLemmas.{CallsGrow-same, CallsGrow-trans}
 use Rattle.bm_top.proofs.SameDisksLemmas.{sound_kept}
 
 -- the disks that were attached are those that the command needs
@@ -56,10 +55,7 @@ units_before P Q before mid new same x apart = record {
 }
 
 pub moves_before : (rows : ℕ) (before mid new : RackView) → mid.moves ≡ before.moves → MovesFew rows mid new → MovesFew rows before new
-moves_before rows before mid new same x = record {
-  low = omega (arith, x.low, same);
-  high = subst (λ (m : ℕ). new.moves ≤ raised m rows) same x.high;
-}
+moves_before rows before mid new same x = subst (λ (m : ℕ). RisesMost rows m new.moves) same x
 
 pub contents_before : (before mid new : RackView) → AttachedFrom before mid → SameContents mid new → SameContents before new
 contents_before before mid new from x = record {

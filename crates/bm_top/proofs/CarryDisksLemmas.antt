@@ -11,13 +11,13 @@ use Rattle.bm_top.specs.declared.disks.DisksError.{DisksError}
 use Rattle.bm_top.specs.declared.disks.DisksError.TheVariants as disks
 use Rattle.bm_top.specs.Disks.{NewDisks, SameOrNewDisks, DisksRefusal, disks_status}
 use Rattle.bm_top.specs.Moment.{Devices, Tells}
-use Rattle.bm_top.specs.Status.{IsOfInput}
 use Rattle.bm_top.specs.TopCall.{TaskCall, NoFaults, IsDoneUnlessMemory}
 use Rattle.bm_top.specs.commands.Carry.{CarryMay, CarryCase, IsMadeFrom}
 use Rattle.bm_top.specs.declared.task.Task.{Task}
 use Rattle.bm_top.specs.declared.words.Verb.TheVariants.{Carry}
-use Rattle.bm_top.specs.declared.status.Status.TheVariants.{Done, RackFault, Exists, SinkFault}
-use Rattle.bm_top.proofs.ExitLemmas.{CallsGrow-same, MovesFew-same, IsRead-none, AppendsFront-none}
+use Rattle.bm_top.specs.declared.status.Status.TheVariants.{RackFault, Exists}
+use Rattle.bm_top.proofs.ExitLemmas.{IsRead-none, AppendsFront-none}
+use Rattle.bm_rack.proofs.CallLemmas.{CallsGrow-same, MovesFew-same}
 use Rattle.bm_top.proofs.CarryWholeLemmas.{new_closed, whole_not_loaded}
 use Rattle.bm_top.proofs.NewLemmas.{sound_new}
 use Rattle.bm_top.proofs.SameDisksLemmas.{sound_kept, calls_kept}

@@ -9,9 +9,6 @@ use Rattle.bm_base.specs.Shape.{dims_of, stripes, load_stripes, loads_of}
 use Rattle.bm_base.proofs.RecordLemmas.{bytes_of-same}
 use Rattle.bm_base.proofs.ShapeLemmas.{loads_rows}
 use Rattle.bm_base.proofs.CountLemmas.{rose_earlier}
-use Rattle.bm_forms.specs.declared.job.Job.{Job}
-use Rattle.bm_forms.specs.Job.{HasBits, JobFits}
-use Rattle.bm_forms.specs.declared.job.Job.TheVariants.{Permute, Walsh}
 use Rattle.bm_forms.proofs.JobLemmas.{meaning-same}
 use Rattle.bm_rack.specs.RackView.{RackView}
 use Rattle.bm_rack.specs.Image.{SameInput}
@@ -20,7 +17,7 @@ use Rattle.bm_rack.specs.Sink.{AppendsFront}
 use Rattle.bm_rack.proofs.FrameLemmas.{Keeps-trans, HasCause-later}
 use Rattle.bm_control.specs.Consistent.{input_of}
 use Rattle.bm_job.specs.Runs.{RunDone, IsReportOf, load_rows, loads_before}
-use Rattle.bm_job.proofs.HeldLemmas.{has_bits}
+use Rattle.bm_job.proofs.KeptJobLemmas.{has_bits}
 use Rattle.bm_disks.specs.Dumping.{area_bytes}
 use Rattle.bm_top.specs.Causes.{CauseOf, HasJob}
 use Rattle.bm_top.specs.Exits.{MadeDisks}
@@ -39,7 +36,8 @@ use Rattle.bm_top.specs.declared.status.Status.TheVariants.{DataFault, DataShort
 use Rattle.bm_top.specs.declared.status.Status.TheVariants.{NotLoaded, OtherShape, OtherJob, NotDone, NoJob, BadPage, SinkFault, OutOfRange}
 use Rattle.bm_top.specs.declared.status.Status.TheVariants.{NotAffine, NotPermutation, BatchShape}
 use Rattle.bm_top.proofs.CarryWholeLemmas.{whole_loaded}
-use Rattle.bm_top.proofs.ExitLemmas.{CallsGrow-trans, AppendsFront-none}
+use Rattle.bm_top.proofs.ExitLemmas.{AppendsFront-none}
+use Rattle.bm_rack.proofs.CallLemmas.{CallsGrow-trans, most_between}
 use Rattle.bm_top.proofs.CarryRanLemmas.{other_shape, other_job, job_passes, not_done, carry_stands}
 use Rattle.bm_top.proofs.RanLemmas.{Ran, ran_grow}
 
@@ -194,10 +192,8 @@ carry_dumped t task d old mid mid' new out out' r answer fits loaded ran dump la
     stood = inr loaded.stood;
     exists = λ e. absurd (late (subst IsBeforeDisks (sym e) tt));
     memory = λ e. absurd (late (subst IsBeforeDisks (sym e) tt));
-    moves = record {
-      low = omega (arith, ran.most.low, loaded.grow.moves, dump.leaves.moves.low);
-      high = omega (arith, ran.most.high, loaded.moves, dump.leaves.moves.high);
-    };
+    moves = most_between _ _ _ (omega (arith, ran.most.low, loaded.grow.moves, dump.leaves.moves.low))
+        (omega (arith, ran.most.high, loaded.moves, dump.leaves.moves.high));
   };
   each = record {
     sound = λ told sound. dump.each.sound told (ran.sound told.0 told.1 (loaded.sound told));

@@ -9,7 +9,7 @@ use Rattle.bm_base.specs.Shape.{stripes, input_size}
 use Rattle.bm_base.proofs.CountLemmas.{rose_earlier}
 use Rattle.bm_rack.specs.RackView.{IsClean}
 use Rattle.bm_rack.specs.Image.{InEveryImage}
-use Rattle.bm_rack.specs.Frames.{RackCall, MakesCalls}
+use Rattle.bm_rack.specs.Frames.{RackCall, MakesCalls, CallsGrow}
 use Rattle.bm_rack.specs.Sink.{AppendsFront}
 use Rattle.bm_rack.proofs.FrameLemmas.{Keeps-trans}
 use Rattle.bm_control.specs.Closing.{IsShut}
@@ -22,16 +22,16 @@ use Rattle.bm_disks.specs.Input.{IsRead, EndsAfter, GoesOnAfter, InputAnswer, Is
 use Rattle.bm_disks.specs.Loading.{AreGatesClosed, HasLoad, HoldsInput, IsLoadingUnit, OpensWhole}
 use Rattle.bm_top.specs.Causes.{CauseOf}
 use Rattle.bm_top.specs.DiskStatus.{load_status}
-use Rattle.bm_top.specs.Exits.{CallsGrow}
 use Rattle.bm_top.specs.Moment.{SinkView, Devices, Tells}
 use Rattle.bm_top.specs.Status.{IsBeforeDisks, IsOfInput}
 use Rattle.bm_top.specs.TopCall.{TaskCall}
 use Rattle.bm_top.specs.commands.Carry.{CarryMay, carried, IsWhole, IsMadeFrom, IsLoadedFrom}
 use Rattle.bm_top.specs.declared.task.Task.{Task}
 use Rattle.bm_top.specs.declared.words.Verb.TheVariants.{Carry}
-use Rattle.bm_top.specs.declared.status.Status.TheVariants.{Done, OutOfMemory, RackFault, Exists, SinkFault}
+use Rattle.bm_top.specs.declared.status.Status.TheVariants.{OutOfMemory, RackFault, Exists}
 use Rattle.bm_top.proofs.CarryWholeLemmas.{whole_in_load}
-use Rattle.bm_top.proofs.ExitLemmas.{CallsGrow-same, CallsGrow-trans, AppendsFront-none}
+use Rattle.bm_top.proofs.ExitLemmas.{AppendsFront-none}
+use Rattle.bm_rack.proofs.CallLemmas.{CallsGrow-same, CallsGrow-trans, CallsGrow-made, most_between}
 use Rattle.bm_top.proofs.FaultLemmas.{cause_later}
 use Rattle.bm_top.proofs.StepAnswerLemmas.{load_not_done, load_no_sink}
 
@@ -59,7 +59,7 @@ pub record LoadedBy (t : Tells) (task : Task) (old new : Devices) (result : Resu
 load_grow : (t : Tells) (task : Task) (old mid new : Devices) (r : Result (Unit {0}) LoadError) → IsMadeFrom t task old mid
     → LoadedBy t task mid new r → CallsGrow old.rack new.rack
 load_grow t task old mid new r made by = CallsGrow-trans old.rack mid.rack new.rack (CallsGrow-same old.rack mid.rack made.calls)
-    (record { moves = by.counts.moves_low; pages = by.counts.pages_low; syncs = by.counts.syncs_low })
+    (CallsGrow-made _ _ _ _ mid.rack new.rack by.counts)
 
 -- the records are loaded
 pub loaded_from : (t : Tells) (task : Task) (old mid new : Devices) → IsMadeFrom t task old mid → LoadedBy t task mid new (Ok tt)
@@ -78,7 +78,7 @@ loaded_from t task old mid new made by =
       job_gate = λ told. shut (page_at mid.rack.contents job_gate) (page_at new.rack.contents job_gate) (by.gates told).no_job;
       clean = by.clean;
       sound = λ told. by.mended told.0 told.1 (λ e. (cc));
-      moves = by.counts.done refl ∙ ap (λ (m : ℕ). raised m (stripes s)) made.calls.moves;
+      moves = by.counts.moves.done refl ∙ ap (λ (m : ℕ). raised m (stripes s)) made.calls.moves;
       grow = load_grow t task old mid new (Ok tt) made by;
       keeps = Keeps-trans old.rack mid.rack new.rack made.keeps by.call.keeps;
       few = λ told. subst (λ (bytes : List ℕ). IsRead (input_size s + 1) bytes new.input.left) same (by.few told);
@@ -116,10 +116,8 @@ carry_not_loaded t task old mid new e made by = record {
     stood = inr made.stood;
     exists = λ is. absurd (no_exists e is);
     memory = λ is. absurd (no_memory e is);
-    moves = record {
-      low = omega (arith, by.counts.moves_low, made.calls.moves);
-      high = omega (arith, by.counts.moves_high, made.calls.moves);
-    };
+    moves = most_between _ _ _ (omega (arith, by.counts.moves.low, made.calls.moves))
+        (omega (arith, by.counts.moves.high, made.calls.moves));
   };
   each = record {
     sound = λ told sound. by.sound told.0 told.1 (made.sound told);

@@ -11,15 +11,15 @@ use Rattle.bm_job.specs.Runs.{IsRunnable}
 use Rattle.bm_top.specs.Causes.{CauseOf}
 use Rattle.bm_top.specs.DiskStatus.{run_status}
 use Rattle.bm_top.specs.Moment.{SinkView, Devices, Tells, TellsRack}
-use Rattle.bm_top.specs.Status.{IsBeforeDisks, IsOfInput}
 use Rattle.bm_top.specs.TopCall.{TaskCall}
 use Rattle.bm_top.specs.commands.Run.{plan_of}
 use Rattle.bm_top.specs.commands.Carry.{CarryMay, carried, IsLoadedFrom}
 use Rattle.bm_top.specs.declared.task.Task.{Task}
 use Rattle.bm_top.specs.declared.words.Verb.TheVariants.{Carry}
-use Rattle.bm_top.specs.declared.status.Status.TheVariants.{Done, OutOfMemory, RackFault, Exists, SinkFault}
+use Rattle.bm_top.specs.declared.status.Status.TheVariants.{OutOfMemory, RackFault, Exists}
 use Rattle.bm_top.proofs.CarryWholeLemmas.{whole_loaded}
-use Rattle.bm_top.proofs.ExitLemmas.{CallsGrow-trans, AppendsFront-none}
+use Rattle.bm_top.proofs.ExitLemmas.{AppendsFront-none}
+use Rattle.bm_rack.proofs.CallLemmas.{CallsGrow-trans, most_between}
 use Rattle.bm_top.proofs.RanLemmas.{Ran, ran_grow}
 use Rattle.bm_top.proofs.FaultLemmas.{cause_later}
 use Rattle.bm_top.proofs.StepAnswerLemmas.{run_not_done, run_no_sink, run_late, run_no_input}
@@ -55,10 +55,7 @@ carry_not_run t task d old mid new e loaded ran = record {
     stood = inr loaded.stood;
     exists = λ is. absurd (no_exists e is);
     memory = λ is. absurd (no_memory e is);
-    moves = record {
-      low = omega (arith, ran.most.low, loaded.grow.moves);
-      high = omega (arith, ran.most.high, loaded.moves);
-    };
+    moves = most_between _ _ _ (omega (arith, ran.most.low, loaded.grow.moves)) (omega (arith, ran.most.high, loaded.moves));
   };
   each = record {
     sound = λ told sound. ran.sound told.0 told.1 (loaded.sound told);

@@ -29,7 +29,9 @@ use Rattle.bm_top.specs.declared.task.Task.{Task}
 use Rattle.bm_top.specs.declared.words.Verb.TheVariants as verbs
 use Rattle.bm_top.specs.declared.status.Status.{Status}
 use Rattle.bm_top.specs.declared.status.Status.TheVariants.{Done, RackFault, SinkFault}
-use Rattle.bm_top.proofs.ExitLemmas.{CallsGrow-trans, IsRead-none}
+use Rattle.bm_top.proofs.ExitLemmas.{IsRead-none}
+use Rattle.bm_rack.proofs.CallLemmas.{CallsGrow-trans, CallsGrow-rows, most_of}
+use Rattle.bm_top.proofs.BeforeLemmas.{moves_before}
 use Rattle.bm_top.proofs.StatusLemmas.{no_fault}
 
 -- what a detection said of records that were seen
@@ -64,8 +66,7 @@ detect_leaves t task d before look new out r answer seen k late cut unwritten =
     record {
       looks = sees;
       same = record { contents = λ u p. sees.units.contents u tt; dirty = λ u p. sees.units.dirty u tt };
-      moves = (let e = seen.moves in let low = k.moved.low in let high = k.moved.high in
-          record { low = omega (arith, e, low); high = subst (λ (m : ℕ). new.moves ≤ raised m (stripes task.shape)) e high });
+      moves = moves_before (stripes task.shape) before look new seen.moves (most_of _ _ _ _ _ (omega arith) k.moved.moves);
       still = λ of. absurd (late of);
       cut = cut;
       unwritten = unwritten;
@@ -84,7 +85,7 @@ detect_each t task d before look new out r answer seen k late why more = record 
   fault = why;
   calls = λ of. absurd (late of);
   grow = CallsGrow-trans before look new seen.grow
-      (record { moves = k.moved.low; pages = omega (arith, k.moved.pages); syncs = omega (arith, k.moved.syncs) });
+      (CallsGrow-rows _ _ look new k.moved);
   unattached = λ is. absurd (late (subst IsBeforeDisks (sym is) tt));
   few = λ told. IsRead-none _ d.input.left;
   input_faults = omega arith;
@@ -101,7 +102,7 @@ map_told t task before look new map seen k told =
 
 rows_moved : (t : Tells) (task : Task) (before look new : RackView) (map : Affine) → IsSeenFrom t task before look
     → Detected t task.shape look (Ok map) new → new.moves ≡ raised before.moves (stripes task.shape)
-rows_moved t task before look new map seen k = k.moved.done refl ∙ ap (λ (n : ℕ). raised n (stripes task.shape)) seen.moves
+rows_moved t task before look new map seen k = k.moved.moves.done refl ∙ ap (λ (n : ℕ). raised n (stripes task.shape)) seen.moves
 
 -- the text was written
 pub detect_done : (t : Tells) (task : Task) (d : Devices) (out : SinkView) (before look new : RackView) (map : Affine)

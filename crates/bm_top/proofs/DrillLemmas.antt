@@ -19,7 +19,8 @@ use Rattle.bm_top.specs.declared.task.Task.{Task}
 use Rattle.bm_top.specs.declared.words.Verb.TheVariants as verbs
 use Rattle.bm_top.specs.declared.status.Status.{Status}
 use Rattle.bm_top.specs.declared.status.Status.TheVariants.{Done, OutOfMemory, RackFault, SinkFault}
-use Rattle.bm_top.proofs.ExitLemmas.{SameCalls-refl, CallsGrow-same, IsRead-none, each_untouched}
+use Rattle.bm_top.proofs.ExitLemmas.{SameCalls-refl, IsRead-none, each_untouched}
+use Rattle.bm_rack.proofs.CallLemmas.{CallsGrow-same}
 
 -- what a drill with the plan of the task tells
 drill_told : (task : Task) (passes : ℕ) (report : DrillReport) (new : RackView) → passes ≡ plan_of task

@@ -5,10 +5,9 @@ use Rattle.bm_base.specs.Contents.{page_at}
 use Rattle.bm_base.specs.Shape.{dims_of}
 use Rattle.bm_rack.specs.RackView.{RackView, IsClean, IsWellFormed}
 use Rattle.bm_rack.specs.Calls.{IsPage}
-use Rattle.bm_rack.specs.Frames.{RackCall, HasCause}
+use Rattle.bm_rack.specs.Frames.{RackCall, HasCause, MakesPageCalls}
 use Rattle.bm_rack.specs.Image.{SameInput}
 use Rattle.bm_rack.proofs.FrameLemmas.{Keeps-trans, HasCause-later}
-use Rattle.bm_control.specs.PageCalls.{MakesPageCalls}
 use Rattle.bm_control.specs.Pages.{job_gate, HasOpenJob, HasClosedJob}
 use Rattle.bm_control.specs.Sound.{IsSound}
 use Rattle.bm_control.proofs.ImageLemmas.{zeros_closed}
@@ -27,7 +26,8 @@ use Rattle.bm_top.specs.declared.words.Verb.TheVariants.{Drop}
 use Rattle.bm_top.specs.declared.status.Status.{Status}
 use Rattle.bm_top.specs.declared.status.Status.TheVariants.{Done, OutOfMemory, RackFault}
 use Rattle.bm_top.proofs.AttachedLemmas.{units_after, input_after, disks_stand}
-use Rattle.bm_top.proofs.ExitLemmas.{CallsGrow-same, CallsGrow-trans, IsRead-none}
+use Rattle.bm_top.proofs.ExitLemmas.{IsRead-none}
+use Rattle.bm_rack.proofs.CallLemmas.{CallsGrow-same, CallsGrow-trans, CallsGrow-pages}
 use Rattle.bm_top.proofs.SameDisksLemmas.{sound_kept}
 
 -- what a drop did to attached disks
@@ -126,7 +126,7 @@ drop_done t task d before mid new r well attached from j =
         fault = fault r before new why;
         calls = λ of. absurd (after_disks r of);
         grow = CallsGrow-trans before mid new (CallsGrow-same before mid from.calls)
-            (record { moves = omega (arith, j.counts.moves); pages = j.counts.pages_low; syncs = j.counts.syncs_low });
+            (CallsGrow-pages _ _ _ mid new j.counts);
         unattached = λ is. absurd (no_memory r is);
         few = λ told. IsRead-none _ d.input.left;
         input_faults = omega arith;

@@ -11,14 +11,13 @@ use Rattle.bm_base.specs.Gate.{IsOpenGate}
 use Rattle.bm_base.specs.declared.shape.Shape.{Shape}
 use Rattle.bm_forms.specs.declared.job.Job.{Job}
 use Rattle.bm_rack.specs.RackView.{RackView, IsWellFormed}
-use Rattle.bm_rack.specs.Frames.{SameState, Keeps, HasCause, MovesRows}
+use Rattle.bm_rack.specs.Frames.{SameState, Keeps, HasCause, MovesRows, MovesFew}
 use Rattle.bm_rack.specs.Sink.{AppendsFront}
 use Rattle.bm_rack.proofs.FrameLemmas.{Keeps-trans, HasCause-later}
 use Rattle.bm_control.specs.Sound.{IsSound}
 use Rattle.bm_control.proofs.SoundLemmas.{sound_same}
 use Rattle.bm_control.proofs.UniqueLemmas.{passes_unique}
 use Rattle.bm_control.specs.Pages.{job_body, pass_gate}
-use Rattle.bm_job.specs.Runs.{MovesFew}
 use Rattle.bm_disks.specs.Dumping.{area_bytes}
 use Rattle.bm_disks.specs.JobOpening.{IsOpenCase, LastAreaMeans}
 use Rattle.bm_disks.specs.declared.dumping.DumpError.{DumpError}
@@ -39,7 +38,9 @@ use Rattle.bm_top.specs.declared.words.Verb.TheVariants as verbs
 use Rattle.bm_top.specs.declared.status.Status.{Status}
 use Rattle.bm_top.specs.declared.status.Status.TheVariants.{Done, OutOfMemory, NotDone, RackFault}
 use Rattle.bm_top.proofs.AttachedLemmas.{disks_stand}
-use Rattle.bm_top.proofs.ExitLemmas.{CallsGrow-trans, IsRead-none}
+use Rattle.bm_top.proofs.ExitLemmas.{IsRead-none}
+use Rattle.bm_rack.proofs.CallLemmas.{CallsGrow-trans, CallsGrow-rows, MovesFew-same, most_of}
+use Rattle.bm_top.proofs.BeforeLemmas.{moves_before}
 use Rattle.bm_top.proofs.LookLemmas.{JobLooked, looks, looks_same, job_told, look_cause, look_not_done, look_not_sink, look_each}
 use Rattle.bm_top.proofs.LookLemmas.{look_grow, look_refused, look_complete}
 use Rattle.bm_top.proofs.SameDisksLemmas.{sound_kept}
@@ -49,10 +50,8 @@ use Rattle.bm_top.proofs.StatusLemmas.{no_fault}
 pub few_none : (ts tc : Bool) (rows : ℕ) (before mid new : RackView) → IsWellFormed ts tc mid → AttachedFrom before mid
     → new.moves ≡ mid.moves
     → MovesFew rows before new
-few_none ts tc rows before mid new well from same =
-    let e = from.calls.moves in
-    let f = well.moves in
-    record { low = omega (arith, same, e); high = omega (arith, same, e, f) }
+few_none ts tc rows before mid new well from same = moves_before rows before mid new from.calls.moves
+    (MovesFew-same ts tc rows mid new well same)
 
 refusal_may : (error : OpenError) → DumpMay (open_status error)
 refusal_may opening.Failed = tt
@@ -202,7 +201,7 @@ dump_written t task d out before mid look new o area r well attached from all is
     records = λ sink told. k.done sink told (dumped_ok r is) ∙ ap (λ (z : List ℕ). d.out.taken ++ z) bytes;
     means = λ sink told sound. k.done sink told.1 (dumped_ok r is)
         ∙ ap (λ (z : List ℕ). d.out.taken ++ z) (bytes ∙ made told sound);
-    moves = k.moved.done (dumped_ok r is) ∙ ap (λ (n : ℕ). raised n (stripes task.shape)) (j.counts.moves ∙ from.calls.moves);
+    moves = k.moved.moves.done (dumped_ok r is) ∙ ap (λ (n : ℕ). raised n (stripes task.shape)) (j.counts.moves ∙ from.calls.moves);
   };
   leaves = record {
     looks = record { contents = k.state.contents ∙ seen.contents; units = units };
@@ -210,8 +209,7 @@ dump_written t task d out before mid look new o area r well attached from all is
       contents = λ u p. units.contents u tt;
       dirty = λ u p. units.dirty u tt;
     };
-    moves = (let e = from.calls.moves in let f = j.counts.moves in let low = k.moved.low in let high = k.moved.high in
-        record { low = omega (arith, e, f, low); high = omega (arith, e, f, high) });
+    moves = moves_before _ before look new (j.counts.moves ∙ from.calls.moves) (most_of _ _ _ _ _ (omega arith) k.moved.moves);
     written = inr begun;
     unwritten = λ of. absurd (dumped_late r of);
     still = λ of. absurd (dumped_late r (inr of));
@@ -228,7 +226,7 @@ dump_written t task d out before mid look new o area r well attached from all is
     };
     calls = λ of. absurd (dumped_late r (inl of));
     grow = CallsGrow-trans before look new (look_grow t task before mid look (Ok o) from j)
-        (record { moves = k.moved.low; pages = omega (arith, k.moved.pages); syncs = omega (arith, k.moved.syncs) });
+        (CallsGrow-rows _ _ look new k.moved);
     unattached = λ is. absurd (dumped_no_memory r is);
     few = λ told. IsRead-none _ d.input.left;
     input_faults = omega arith;

@@ -1,16 +1,16 @@
 -- Exits of a command at which nothing was done to the devices.
-use Rattle.std.proofs.Common.{◌≡◌, ◌≢◌, inl, ℕ, Bool, List, refl, sym, ap, ◌∙◌, arith}
+use Rattle.std.proofs.Common.{◌≢◌, inl, ℕ, Bool, List, refl, sym, ap, ◌∙◌, arith}
 use Rattle.std.proofs.lemmas.List.{append-nil}
 use Rattle.bm_base.specs.Contents.{RackUnit, unit_at}
 use Rattle.bm_base.specs.declared.dims.Dims.{Dims}
-use Rattle.bm_rack.specs.RackView.{RackView, IsWellFormed}
+use Rattle.bm_rack.specs.RackView.{RackView}
 use Rattle.bm_rack.specs.Image.{SameInput}
 use Rattle.bm_rack.specs.Sink.{AppendsFront}
 use Rattle.bm_rack.specs.Frames.{SameCalls, SameDisks}
 use Rattle.bm_rack.proofs.FrameLemmas.{Keeps-refl}
-use Rattle.bm_job.specs.Runs.{CallsFew, MovesFew}
+use Rattle.bm_rack.proofs.CallLemmas.{CallsGrow-same}
 use Rattle.bm_disks.specs.Input.{IsRead}
-use Rattle.bm_top.specs.Exits.{CallsGrow, AttachedFrom, KeepsUnits, EachExit}
+use Rattle.bm_top.specs.Exits.{AttachedFrom, KeepsUnits, EachExit}
 use Rattle.bm_top.specs.Moment.{Devices, Tells}
 use Rattle.bm_top.specs.declared.task.Task.{Task}
 use Rattle.bm_top.specs.declared.words.Verb.{Verb}
@@ -26,17 +26,6 @@ SameCalls-refl v = record { moves = refl; pages = refl; syncs = refl }
 pub AttachedFrom-refl : (v : RackView) → AttachedFrom v v
 AttachedFrom-refl v = record { disks = SameDisks-refl v; calls = SameCalls-refl v; keeps = Keeps-refl v }
 
-pub CallsGrow-same : (old new : RackView) → SameCalls old new → CallsGrow old new
-CallsGrow-same old new same = (let m = same.moves in let p = same.pages in let s = same.syncs in
-    record { moves = omega (arith, m); pages = omega (arith, p); syncs = omega (arith, s) })
-
-pub CallsGrow-trans : (a b c : RackView) → CallsGrow a b → CallsGrow b c → CallsGrow a c
-CallsGrow-trans a b c x y = record {
-  moves = omega (arith, x.moves, y.moves);
-  pages = omega (arith, x.pages, y.pages);
-  syncs = omega (arith, x.syncs, y.syncs);
-}
-
 -- units of disks that are as before
 pub KeepsUnits-same : (P : RackUnit → Type 0) (old new : RackView) → SameDisks old new → KeepsUnits P old new
 KeepsUnits-same P old new same = record {
@@ -48,20 +37,6 @@ pub SameInput-same : (dims : Dims) (old new : RackView) → SameDisks old new �
 SameInput-same dims old new same = record {
   contents = λ u p. ap (λ c. unit_at c u) same.contents;
   dirty = λ u p clean. ap (λ (f : RackUnit → Bool). f u) same.dirty ∙ clean;
-}
-
--- no row call was made
-pub MovesFew-same : (ts tc : Bool) (rows : ℕ) (old new : RackView) → IsWellFormed ts tc old → new.moves ≡ old.moves → MovesFew rows old new
-MovesFew-same ts tc rows old new well same = record { low = omega (arith, same); high = omega (arith, same, well.moves) }
-
--- no page call and no sync was made
-pub CallsFew-same : (ts tc : Bool) (pages syncs : ℕ) (old new : RackView) → IsWellFormed ts tc old → SameCalls old new
-    → CallsFew pages syncs old new
-CallsFew-same ts tc pages syncs old new well same = record {
-  pages_low = omega (arith, same.pages);
-  pages_high = omega (arith, same.pages, well.pages);
-  syncs_low = omega (arith, same.syncs);
-  syncs_high = omega (arith, same.syncs, well.syncs);
 }
 
 -- nothing was read

@@ -26,7 +26,8 @@ use Rattle.bm_top.specs.declared.words.Verb.TheVariants as verbs
 use Rattle.bm_top.specs.declared.status.Status.{Status}
 use Rattle.bm_top.specs.declared.status.Status.TheVariants.{Done, OutOfMemory, RackFault}
 use Rattle.bm_top.proofs.AttachedLemmas.{disks_stand}
-use Rattle.bm_top.proofs.ExitLemmas.{CallsGrow-same, CallsGrow-trans}
+use Rattle.bm_rack.proofs.CallLemmas.{CallsGrow-same, CallsGrow-trans, CallsGrow-made, most_of}
+use Rattle.bm_top.proofs.BeforeLemmas.{moves_before}
 use Rattle.bm_top.proofs.SameDisksLemmas.{sound_kept}
 use Rattle.bm_top.proofs.OpensLemmas.{opens_from}
 
@@ -102,7 +103,7 @@ done t task d input before mid new (Ok x) from j is = record {
   job_gate = λ told. shut_closed (page_at mid.contents job_gate) (page_at new.contents job_gate) (j.gates told).no_job;
   clean = j.clean;
   sound = λ told. j.mended told (λ e. (cc));
-  moves = j.counts.done refl ∙ ap (λ (n : ℕ). raised n (stripes task.shape)) from.calls.moves;
+  moves = j.counts.moves.done refl ∙ ap (λ (n : ℕ). raised n (stripes task.shape)) from.calls.moves;
 }
 done t task d input before mid new (Err load.Failed) from j is = absurd (cc)
 done t task d input before mid new (Err load.DataFault) from j is = absurd (cc)
@@ -154,8 +155,7 @@ load_done t task d input before mid new r well attached from j =
             (j.opened told input (sound_kept before mid from.disks sound));
         unread = λ of. absurd (late r of);
         same = λ of. absurd (late r of);
-        moves = (let e = from.calls.moves in let low = j.counts.moves_low in let high = j.counts.moves_high in
-            record { low = omega (arith, e, low); high = omega (arith, e, high) });
+        moves = moves_before _ before mid new from.calls.moves (most_of _ _ _ _ _ (omega arith) j.counts.moves);
         out = refl;
       };
       each = record {
@@ -165,7 +165,7 @@ load_done t task d input before mid new r well attached from j =
         fault = record { rose = λ is. why.rose (failed r is); sure = λ steady going is. why.sure steady going (failed r is) };
         calls = λ of. absurd (late r of);
         grow = CallsGrow-trans before mid new (CallsGrow-same before mid from.calls)
-            (record { moves = j.counts.moves_low; pages = j.counts.pages_low; syncs = j.counts.syncs_low });
+            (CallsGrow-made _ _ _ _ mid new j.counts);
         unattached = λ is. absurd (no_memory r is);
         few = j.few;
         input_faults = j.data_faults;

@@ -5,11 +5,10 @@ use Rattle.bm_base.specs.Count.{Rose}
 use Rattle.bm_base.specs.Shape.{dims_of}
 use Rattle.bm_base.proofs.CountLemmas.{rose_earlier}
 use Rattle.bm_rack.specs.RackView.{RackView}
-use Rattle.bm_rack.specs.Frames.{Keeps, RackCall, HasCause}
+use Rattle.bm_rack.specs.Frames.{Keeps, RackCall, HasCause, MakesPageCalls, CallsGrow}
 use Rattle.bm_rack.specs.Image.{SameInput}
 use Rattle.bm_rack.proofs.FrameLemmas.{Keeps-trans, HasCause-later}
 use Rattle.bm_control.specs.declared.state.SlateState.TheVariants.{Working}
-use Rattle.bm_control.specs.PageCalls.{MakesPageCalls}
 use Rattle.bm_control.specs.Sound.{IsSound}
 use Rattle.bm_control.specs.State.{StateAnswer}
 use Rattle.bm_disks.specs.declared.job_opening.OpenJob.{OpenJob}
@@ -18,7 +17,7 @@ use Rattle.bm_disks.specs.declared.job_opening.OpenError.TheVariants as opening
 use Rattle.bm_disks.specs.JobOpening.{OpenAnswer, IsOpenCase, LastAreaMeans}
 use Rattle.bm_top.specs.Causes.{CauseOf, HasDisks, HasJob, HasOtherShape, HasOtherJob, HasBadPage}
 use Rattle.bm_top.specs.DiskStatus.{open_status}
-use Rattle.bm_top.specs.Exits.{CallsGrow, AttachedFrom, EachExit}
+use Rattle.bm_top.specs.Exits.{AttachedFrom, EachExit}
 use Rattle.bm_top.specs.Moment.{Devices, SinkView, Tells, TellsRack}
 use Rattle.bm_top.specs.TopCall.{IsDoneUnlessMemory}
 use Rattle.bm_top.specs.Status.{IsBeforeDisks}
@@ -29,7 +28,8 @@ use Rattle.bm_top.specs.declared.words.Verb.TheVariants as verbs
 use Rattle.bm_top.specs.declared.status.Status.{Status}
 use Rattle.bm_top.specs.declared.status.Status.TheVariants.{Done, RackFault, SinkFault}
 use Rattle.bm_top.proofs.AttachedLemmas.{units_after, input_after}
-use Rattle.bm_top.proofs.ExitLemmas.{CallsGrow-same, CallsGrow-trans, IsRead-none}
+use Rattle.bm_top.proofs.ExitLemmas.{IsRead-none}
+use Rattle.bm_rack.proofs.CallLemmas.{CallsGrow-same, CallsGrow-trans, CallsGrow-pages}
 use Rattle.bm_top.proofs.SameDisksLemmas.{sound_kept}
 
 -- what a look at the job said of attached disks
@@ -202,7 +202,7 @@ failed_by opening.OtherJob is = absurd (cc)
 pub look_grow : (t : Tells) (task : Task) (before mid new : RackView) (r : Result OpenJob OpenError) → AttachedFrom before mid
     → JobLooked t task mid r new → CallsGrow before new
 look_grow t task before mid new r from j = CallsGrow-trans before mid new (CallsGrow-same before mid from.calls)
-    (record { moves = omega (arith, j.counts.moves); pages = j.counts.pages_low; syncs = j.counts.syncs_low })
+    (CallsGrow-pages _ _ _ mid new j.counts)
 
 -- each exit of a command that looked, whatever it answers then
 pub look_each : (t : Tells) (verb : Verb) (task : Task) (answer : Status) (d : Devices) (before mid new : RackView) (out : SinkView)

@@ -8,7 +8,8 @@ use Rattle.bm_top.specs.declared.task.Task.{Task}
 use Rattle.bm_top.specs.declared.words.Verb.{Verb}
 use Rattle.bm_top.specs.declared.words.Verb.TheVariants.{New, Load, Plan, Run, Status, Dump, Drop, Detect, Carry, Drill}
 use Rattle.bm_top.specs.declared.status.Status.TheVariants.{OutOfMemory}
-use Rattle.bm_top.proofs.ExitLemmas.{SameDisks-refl, SameCalls-refl, KeepsUnits-same, SameInput-same, MovesFew-same, CallsFew-same}
+use Rattle.bm_top.proofs.ExitLemmas.{SameDisks-refl, SameCalls-refl, KeepsUnits-same, SameInput-same}
+use Rattle.bm_rack.proofs.CallLemmas.{MovesFew-same, CallsFew-same}
 use Rattle.bm_top.proofs.ExitLemmas.{AppendsFront-none, each_untouched}
 use Rattle.bm_top.proofs.CarryWholeLemmas.{none_stands}
 use Rattle.bm_top.proofs.OpensLemmas.{opens_same}

@@ -17,7 +17,8 @@ use Rattle.bm_top.specs.TopCall.{TaskCall}
 use Rattle.bm_top.specs.declared.task.Task.{Task}
 use Rattle.bm_top.specs.declared.words.Verb.TheVariants.{New}
 use Rattle.bm_top.specs.declared.status.Status.TheVariants.{Done}
-use Rattle.bm_top.proofs.ExitLemmas.{CallsGrow-same, IsRead-none}
+use Rattle.bm_top.proofs.ExitLemmas.{IsRead-none}
+use Rattle.bm_rack.proofs.CallLemmas.{CallsGrow-same}
 use Rattle.bm_top.proofs.SameDisksLemmas.{sound_kept, calls_kept}
 
 -- new disks are sound: both gates are closed, and nothing is dirty

@@ -9,7 +9,8 @@ use Rattle.bm_top.specs.TopCall.{TaskCall}
 use Rattle.bm_top.specs.declared.task.Task.{Task}
 use Rattle.bm_top.specs.declared.words.Verb.TheVariants.{Plan}
 use Rattle.bm_top.specs.declared.status.Status.TheVariants.{SinkFault}
-use Rattle.bm_top.proofs.ExitLemmas.{SameCalls-refl, CallsGrow-same, IsRead-none}
+use Rattle.bm_top.proofs.ExitLemmas.{SameCalls-refl, IsRead-none}
+use Rattle.bm_rack.proofs.CallLemmas.{CallsGrow-same}
 
 pub plan_refused : (t : Tells) (task : Task) (d : Devices) (old new : SinkView)
     → (IsTrue t.out → AppendsFront old.taken new.taken (plan_text task.shape task.job)) → Rose old.faults new.faults

@@ -11,16 +11,16 @@ use Rattle.bm_base.specs.Shape.{dims_of}
 use Rattle.bm_forms.specs.declared.job.Job.{Job}
 use Rattle.bm_forms.specs.Job.{meaning}
 use Rattle.bm_rack.specs.RackView.{RackView}
-use Rattle.bm_rack.specs.Frames.{SameDisks, RackCall}
+use Rattle.bm_rack.specs.Frames.{SameDisks, RackCall, CallsGrow, MovesFew, CallsFew, SameCalls, RisesMost}
 use Rattle.bm_rack.specs.Image.{InEveryImage, SameInput}
 use Rattle.bm_control.specs.Consistent.{input_of}
 use Rattle.bm_control.specs.Pages.{job_body, job_gate, HasOpenJob, HasClosedJob}
 use Rattle.bm_control.specs.Sound.{IsSound}
 use Rattle.bm_job.specs.declared.answers.RunError.{RunError}
 use Rattle.bm_job.specs.declared.answers.RunError.TheVariants as run
-use Rattle.bm_job.specs.Runs.{most_pages, most_syncs, RunAnswer, ReportFits, RefusalKeeps, RunDone, RunFailed, RunCalls, CallsFew}
-use Rattle.bm_job.specs.Runs.{KeepsJobs, KeepsOpenJob, HasOpenBody, MovesFew, load_rows, run_most, IsRunUnit, IsRunnable}
-use Rattle.bm_top.specs.Exits.{CallsGrow, AttachedFrom}
+use Rattle.bm_job.specs.Runs.{most_pages, most_syncs, RunAnswer, ReportFits, RefusalKeeps, RunDone, RunFailed, RunCalls}
+use Rattle.bm_job.specs.Runs.{KeepsJobs, KeepsOpenJob, HasOpenBody, load_rows, run_most, IsRunUnit, IsRunnable}
+use Rattle.bm_top.specs.Exits.{AttachedFrom}
 use Rattle.bm_top.specs.Moment.{Tells}
 use Rattle.bm_top.specs.declared.task.Task.{Task}
 use Rattle.bm_top.proofs.SameDisksLemmas.{image_kept}
@@ -47,7 +47,7 @@ pub record Ran (t : Tells) (task : Task) (plan : ℕ) (old new : RackView) (resu
 -- no count of calls fell
 pub ran_grow : (t : Tells) (task : Task) (plan : ℕ) (old new : RackView) (result : Result RunReport RunError)
     → Ran t task plan old new result → CallsGrow old new
-ran_grow t task plan old new result ran = record { moves = ran.most.low; pages = ran.few.pages_low; syncs = ran.few.syncs_low }
+ran_grow t task plan old new result ran = record { moves = ran.few.moves; pages = ran.few.pages.low; syncs = ran.few.syncs.low }
 
 -- the plan's number of passes by another name
 pub ran_as : {t : Tells} {task : Task} {p q : ℕ} {old new : RackView} {result : Result RunReport RunError} → p ≡ q
@@ -96,20 +96,18 @@ failed_before s before mid new same moves x = record {
   none = λ dims image is i closed. x.none dims image is i closed ∙ moves;
 }
 
-pub few_before : (pages syncs : ℕ) (before mid new : RackView) → mid.pages ≡ before.pages → mid.syncs ≡ before.syncs
-    → CallsFew pages syncs mid new
+pub few_before : (pages syncs : ℕ) (before mid new : RackView) → SameCalls before mid → CallsFew pages syncs mid new
     → CallsFew pages syncs before new
-few_before pages syncs before mid new p s x = record {
-  pages_low = omega (arith, x.pages_low, p);
-  pages_high = subst (λ (m : ℕ). new.pages ≤ raised m pages) p x.pages_high;
-  syncs_low = omega (arith, x.syncs_low, s);
-  syncs_high = subst (λ (m : ℕ). new.syncs ≤ raised m syncs) s x.syncs_high;
+few_before pages syncs before mid new same x = record {
+  moves = omega (arith, x.moves, same.moves);
+  pages = subst (λ (m : ℕ). RisesMost pages m new.pages) same.pages x.pages;
+  syncs = subst (λ (m : ℕ). RisesMost syncs m new.syncs) same.syncs x.syncs;
 }
 
 pub calls_before : (s : Shape) (p q : ℕ) (before mid new : RackView) → AttachedFrom before mid → RunCalls s mid.contents p q mid new
     → RunCalls s before.contents p q before new
 calls_before s p q before mid new from x =
-    let few = λ (a b : ℕ). few_before a b before mid new from.calls.pages from.calls.syncs in
+    let few = λ (a b : ℕ). few_before a b before mid new from.calls in
     let y : RunCalls s before.contents p q mid new = subst (λ (c : Contents). RunCalls s c p q mid new) from.disks.contents x in
     record {
       none = λ closed. few _ _ (y.none closed);

@@ -93,7 +93,7 @@ refused_leaves t task d before mid new e from ran = record {
   same = input_before _ before mid new from.disks ran.input;
   load = units_before (IsRunUnit task.shape) (IsNoRunUnit task) before mid new from.disks ran.call.frame (λ u q. q);
   most = moves_before (bound_of task) before mid new from.calls.moves ran.most;
-  calls = few_before _ _ before mid new from.calls.pages from.calls.syncs ran.few;
+  calls = few_before _ _ before mid new from.calls ran.few;
   session = inr (session t task (record d { rack = before }) (record d { rack = new }) mid (run_status e) (Err e) from ran (λ is. ap Err
       (rack_fault e is)));
   before = λ of. absurd (run_late e of);
@@ -209,7 +209,7 @@ done_leaves t task old new mid answer r from ran calm late fine input cut writte
   same = input_before _ old.rack mid new.rack from.disks ran.input;
   load = units_before (IsRunUnit task.shape) (IsNoRunUnit task) old.rack mid new.rack from.disks ran.call.frame (λ u q. q);
   most = moves_before (bound_of task) old.rack mid new.rack from.calls.moves ran.most;
-  calls = few_before _ _ old.rack mid new.rack from.calls.pages from.calls.syncs ran.few;
+  calls = few_before _ _ old.rack mid new.rack from.calls ran.few;
   session = inr (session t task old new mid answer (Ok r) from ran (λ is. absurd (calm is)));
   before = λ of. absurd (late of);
   refused = λ of. absurd (fine of);

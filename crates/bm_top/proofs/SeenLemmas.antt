@@ -1,23 +1,18 @@
 -- What the command `detect` sees of the records that are loaded.
 use Rattle.std.proofs.Common.{Ok, Err, ◌≡◌, inr, Some, Result, refl, sym, ap, subst, ◌∙◌}
-use Rattle.bm_base.specs.declared.shape.Shape.{Shape}
-use Rattle.bm_base.specs.Contents.{Contents, page_at}
+use Rattle.bm_base.specs.Contents.{Contents}
 use Rattle.bm_base.specs.Count.{Rose}
 use Rattle.bm_base.specs.Shape.{dims_of}
 use Rattle.bm_base.proofs.CountLemmas.{rose_earlier}
 use Rattle.bm_rack.specs.RackView.{RackView, IsWellFormed}
 use Rattle.bm_rack.proofs.FrameLemmas.{Keeps-trans, HasCause-later}
-use Rattle.bm_control.specs.declared.state.SlateState.{SlateState}
-use Rattle.bm_control.specs.declared.state.SlateState.TheVariants.{Closed, Loaded, Working}
+use Rattle.bm_control.specs.declared.state.SlateState.TheVariants.{Loaded, Working}
 use Rattle.bm_control.specs.Pages.{HasOpenLoad, HasLoadBody}
 use Rattle.bm_control.specs.Sound.{IsSound}
-use Rattle.bm_control.specs.State.{StateAnswer}
-use Rattle.bm_control.proofs.MomentLemmas.{load_unique}
 use Rattle.bm_disks.specs.declared.job_opening.OpenJob.{OpenJob}
 use Rattle.bm_disks.specs.declared.job_opening.OpenError.{OpenError}
 use Rattle.bm_disks.specs.declared.job_opening.OpenError.TheVariants as opening
 use Rattle.bm_disks.specs.JobOpening.{OpenAnswer}
-use Rattle.bm_job.specs.Begins.{IsLoadedState}
 use Rattle.bm_job.proofs.EndLemmas.{loaded_shape}
 use Rattle.bm_top.specs.Causes.{HasLoadedShape}
 use Rattle.bm_top.specs.DiskStatus.{open_status}

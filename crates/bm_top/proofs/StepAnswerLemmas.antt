@@ -1,5 +1,5 @@
 -- What the steps of a command never answer.
-use Rattle.std.proofs.Common.{◌≡◌, ◌≢◌, arith}
+use Rattle.std.proofs.Common.{◌≢◌}
 use Rattle.bm_disks.specs.declared.load_error.LoadError.{LoadError}
 use Rattle.bm_disks.specs.declared.load_error.LoadError.TheVariants as load
 use Rattle.bm_job.specs.declared.answers.RunError.{RunError}

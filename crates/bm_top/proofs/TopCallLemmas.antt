@@ -103,10 +103,12 @@ holds_task told v text (Ok task) same is = λ t. (is.0, subst (λ (x : List ℕ)
 -- and so is its refusal
 pub text_refused : (verb : Verb) (told : Bool) (old new : SourceView) (text : List ℕ) (result : Result Task Status)
     → (IsTrue told → text ≡ old.left) → (IsTrue told → (new.left ≡ []) × (length old.left ≤ 65536)) → old.faults ≤ new.faults
-    → ¬ IsErrOf result JobFault → IfErr result (λ status. JobCause verb text status) → IfErr result (λ status. JobRead verb told old status new)
+    → ¬ IsErrOf result JobFault → IfErr result (λ status. JobCause verb text status)
+    → IfErr result (λ status. JobRead verb told old status new)
 text_refused verb told old new text (Ok task) same end low calm cause = tt
 text_refused verb told old new text (Err status) same end low calm cause =
-    source_ended verb told status old new (λ e. calm (ap Err e)) end low (λ t. subst (λ (x : List ℕ). JobCause verb x status) (same t) cause)
+    source_ended verb told status old new (λ e. calm (ap Err e)) end low
+    (λ t. subst (λ (x : List ℕ). JobCause verb x status) (same t) cause)
 
 -- once its task was taken
 pub job_done : (t : Tells) (verb : Verb) (task : Task) (old : Moment) (answer : Status) (new : Moment) → HoldsTask t.job old.job task

@@ -3,7 +3,7 @@ use Rattle.std.specs.Prelude.{◌≡◌, ◌⊎◌, ◌+◌, ◌≤◌, false, I
 use Rattle.bm_base.specs.Contents.{RackUnit, unit_at}
 use Rattle.bm_base.specs.Shape.{dims_of, input_size}
 use Rattle.bm_rack.specs.RackView.{RackView}
-use Rattle.bm_rack.specs.Frames.{SameCalls, SameDisks, Keeps, HasCause}
+use Rattle.bm_rack.specs.Frames.{SameCalls, SameDisks, CallsGrow, Keeps, HasCause}
 use Rattle.bm_control.specs.Sound.{IsSound}
 use Rattle.bm_disks.specs.Input.{IsRead}
 use Rattle.bm_top.specs.Status.{IsBeforeDisks}
@@ -13,12 +13,6 @@ use Rattle.bm_top.specs.declared.words.Verb.{Verb}
 use Rattle.bm_top.specs.declared.words.Verb.TheVariants.{New, Carry}
 use Rattle.bm_top.specs.declared.status.Status.{Status}
 use Rattle.bm_top.specs.declared.status.Status.TheVariants.{OutOfMemory, RackFault}
-
--- no count of calls fell
-pub record CallsGrow (old new : RackView) : Type 0 where
-  pub moves : old.moves ≤ new.moves
-  pub pages : old.pages ≤ new.pages
-  pub syncs : old.syncs ≤ new.syncs
 
 -- The disks were attached: what stands, its bytes and what is dirty are as before, and no row, page or sync was asked for.
 pub record AttachedFrom (old new : RackView) : Type 0 where

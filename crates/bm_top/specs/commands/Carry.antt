@@ -10,16 +10,15 @@ use Rattle.bm_base.specs.Shape.{dims_of, stripes, input_size}
 use Rattle.bm_forms.specs.Job.{meaning}
 use Rattle.bm_rack.specs.RackView.{RackView, IsClean}
 use Rattle.bm_rack.specs.Image.{InEveryImage}
-use Rattle.bm_rack.specs.Frames.{SameCalls, Keeps}
+use Rattle.bm_rack.specs.Frames.{SameCalls, Keeps, CallsGrow, MovesFew}
 use Rattle.bm_rack.specs.Sink.{AppendsFront}
 use Rattle.bm_control.specs.Consistent.{input_of}
 use Rattle.bm_control.specs.Pages.{pass_gate, HasOpenLoad, HasClosedLoad, HasOpenJob, HasClosedJob, HasLoadBody, HasJobBody}
 use Rattle.bm_control.specs.Sound.{IsSound}
-use Rattle.bm_job.specs.Runs.{ReportFits, MovesFew}
+use Rattle.bm_job.specs.Runs.{ReportFits}
 use Rattle.bm_disks.specs.Input.{IsRead}
 use Rattle.bm_disks.specs.Loading.{HoldsInput}
 use Rattle.bm_top.specs.Disks.{SameOrNewDisks}
-use Rattle.bm_top.specs.Exits.{CallsGrow}
 use Rattle.bm_top.specs.Moment.{Devices, Tells, TellsRack}
 use Rattle.bm_top.specs.Status.{IsBeforeDisks, IsOfInput}
 use Rattle.bm_top.specs.declared.task.Task.{Task}

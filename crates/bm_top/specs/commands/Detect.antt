@@ -6,19 +6,17 @@ use Rattle.bm_base.specs.Shape.{dims_of, stripes}
 use Rattle.bm_gf2.specs.declared.affine.Affine.{Affine}
 use Rattle.bm_gf2.specs.Matrix.{IsNonsingular}
 use Rattle.bm_rack.specs.RackView.{RackView}
-use Rattle.bm_rack.specs.Frames.{Keeps}
+use Rattle.bm_rack.specs.Frames.{Keeps, CallsGrow, MovesFew}
 use Rattle.bm_rack.specs.Image.{SameInput}
 use Rattle.bm_rack.specs.Sink.{AppendsFront}
 use Rattle.bm_control.specs.Pages.{HasOpenLoad, HasLoadBody}
 use Rattle.bm_control.specs.Sound.{IsSound}
-use Rattle.bm_job.specs.Runs.{MovesFew}
 use Rattle.bm_detect.specs.Candidate.{input_number, IsAffineBy}
 use Rattle.bm_disks.specs.declared.job_opening.OpenJob.{OpenJob}
 use Rattle.bm_disks.specs.declared.job_opening.OpenError.{OpenError}
 use Rattle.bm_disks.specs.declared.job_opening.OpenError.TheVariants as opening
 use Rattle.bm_text.specs.JobText.{job_text}
 use Rattle.bm_top.specs.Causes.{HasLoadedShape}
-use Rattle.bm_top.specs.Exits.{CallsGrow}
 use Rattle.bm_top.specs.Moment.{Devices, Tells, TellsRack}
 use Rattle.bm_top.specs.Status.{IsOfState}
 use Rattle.bm_top.specs.declared.task.Task.{Task}

@@ -13,7 +13,7 @@ use Rattle.bm_rack.specs.Sink.{AppendsFront}
 use Rattle.bm_control.specs.Consistent.{input_of}
 use Rattle.bm_control.specs.Pages.{pass_gate}
 use Rattle.bm_control.specs.Sound.{IsSound}
-use Rattle.bm_job.specs.Runs.{MovesFew}
+use Rattle.bm_rack.specs.Frames.{MovesFew}
 use Rattle.bm_disks.specs.JobOpening.{IsOpenCase}
 use Rattle.bm_disks.specs.Dumping.{area_bytes}
 use Rattle.bm_top.specs.Causes.{HasJob}

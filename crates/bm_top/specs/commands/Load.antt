@@ -5,11 +5,10 @@ use Rattle.bm_base.specs.Records.{record_in, SameRecords}
 use Rattle.bm_base.specs.Shape.{dims_of, stripes, input_size}
 use Rattle.bm_rack.specs.RackView.{RackView, IsClean}
 use Rattle.bm_rack.specs.Image.{InEveryImage}
-use Rattle.bm_rack.specs.Frames.{SameDisks}
+use Rattle.bm_rack.specs.Frames.{SameDisks, MovesFew}
 use Rattle.bm_control.specs.Consistent.{input_of}
 use Rattle.bm_control.specs.Pages.{HasOpenLoad, HasClosedLoad, HasClosedJob, HasLoadBody}
 use Rattle.bm_control.specs.Sound.{IsSound}
-use Rattle.bm_job.specs.Runs.{MovesFew}
 use Rattle.bm_disks.specs.Loading.{OpensWhole}
 use Rattle.bm_top.specs.Moment.{Devices, Tells, TellsRack}
 use Rattle.bm_top.specs.Status.{IsBeforeDisks, IsOfInput}

@@ -14,11 +14,11 @@ use Rattle.bm_forms.specs.PassCount.{passes_of}
 use Rattle.bm_rack.specs.RackView.{RackView}
 use Rattle.bm_rack.specs.Image.{SameInput, InEveryImage}
 use Rattle.bm_rack.specs.Sink.{AppendsFront}
-use Rattle.bm_rack.specs.Frames.{SameCalls, SameDisks}
+use Rattle.bm_rack.specs.Frames.{SameCalls, SameDisks, MovesFew, CallsFew}
 use Rattle.bm_control.specs.Pages.{HasOpenJob}
 use Rattle.bm_control.specs.Sound.{IsSound}
-use Rattle.bm_job.specs.Runs.{most_pages, most_syncs, CallsFew, ReportFits, IsReportOf, RunDone, RunFailed, RunCalls, KeepsJobs}
-use Rattle.bm_job.specs.Runs.{KeepsOpenJob, MovesFew, SameContents, IsRunnable, IsRunUnit, run_most}
+use Rattle.bm_job.specs.Runs.{most_pages, most_syncs, ReportFits, IsReportOf, RunDone, RunFailed, RunCalls, KeepsJobs}
+use Rattle.bm_job.specs.Runs.{KeepsOpenJob, SameContents, IsRunnable, IsRunUnit, run_most}
 use Rattle.bm_text.specs.ReportText.{report_text}
 use Rattle.bm_top.specs.Exits.{KeepsUnits}
 use Rattle.bm_top.specs.Moment.{Devices, Tells, TellsRack}

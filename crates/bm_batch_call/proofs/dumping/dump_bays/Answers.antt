@@ -57,7 +57,7 @@ returns-in-Err g c = λ d.
     (g.Y.Rack.view c.dump_records.new.rack) = record {
       state = c.dump_records.ensures.state;
       keeps = c.dump_records.ensures.keeps;
-      moves = few_raised (stripes c.args.shape.now) _ _ c.dump_records.ensures.moved.low c.dump_records.ensures.moved.high;
+      moves = few_raised (stripes c.args.shape.now) _ _ _ c.dump_records.ensures.moved.moves;
     } in
     let first = below_now g.Y.Rack.view no_view _ c.from.result _ c.loop-bay.bays dumped.bays below in
     let x = failed_at g.Y.Rack.view c.args.shape.now _ c.from.result _ c.loop-bay.bays c.index-bays-from.result c.dump_records.new.rack
@@ -95,7 +95,7 @@ loop-bay-preserved g c =
     (g.Y.Rack.view c.dump_records.new.rack) = record {
       state = c.dump_records.ensures.state;
       keeps = c.dump_records.ensures.keeps;
-      moves = few_raised (stripes c.args.shape.now) _ _ c.dump_records.ensures.moved.low c.dump_records.ensures.moved.high;
+      moves = few_raised (stripes c.args.shape.now) _ _ _ c.dump_records.ensures.moved.moves;
     } in
     record {
       dumped = λ d.
@@ -109,7 +109,7 @@ loop-bay-preserved g c =
           (map g.Y.Rack.view (slice_set c.loop-bay.bays c.from.result c.dump_records.new.rack))) at
           (dumped_next g.Y.Rack.view _ _ c.args.shape.now _ c.from.result sink now last _ c.loop-bay.bays c.index-bays-from.result
           c.dump_records.new.rack _ below dumped area (λ a b. c.in-Ok.ensures.done a b refl) c.dump_records.ensures.sink_faults
-          (record { looked = looked; rows = c.in-Ok.ensures.moved.done refl }));
+          (record { looked = looked; rows = c.in-Ok.ensures.moved.moves.done refl }));
       fits = c.dump_records.ensures.fits;
     }
 

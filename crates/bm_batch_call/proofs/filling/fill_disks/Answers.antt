@@ -40,8 +40,8 @@ returns-in-Ok-clause-call g c =
       keeps = Keeps-trans _ _ _ c.shut_gates.ensures.call.keeps loads.keeps;
       cause = HasCause-later _ _ _ _ c.shut_gates.ensures.call.keeps loads.cause;
       moves = few_both 0 (stripes s) (stripes s) old mid new (omega arith) (few_same 0 old mid c.shut_gates.ensures.counts.moves)
-          (few_raised (stripes s) mid new loads.moved.low loads.moved.high);
-      rows = λ ok. loads.moved.done ok ∙ ap (λ (k : ℕ). raised k (stripes s)) c.shut_gates.ensures.counts.moves;
+          (few_raised (stripes s) _ mid new loads.moved.moves);
+      rows = λ ok. loads.moved.moves.done ok ∙ ap (λ (k : ℕ). raised k (stripes s)) c.shut_gates.ensures.counts.moves;
     }
 
 pub returns-in-Err-clause-call : goal.returns-in-Err-clause-call

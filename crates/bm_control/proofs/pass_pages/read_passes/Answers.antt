@@ -1,4 +1,5 @@
 use Rattle.std.proofs.Common.{◌≡◌, ◌+◌, ◌*◌, Result, ℕ, refl, sym, ◌∙◌, subst, arith}
+use Rattle.bm_rack.proofs.CallLemmas.{MakesPageCalls-done}
 use Rattle.bm_control.specs.declared.state.ControlError.{ControlError}
 use Rattle.bm_control.specs.State.{PassesAnswer, PassesStand}
 use Rattle.bm_control.proofs.StateLemmas.{passes_more, passes_bad}
@@ -19,7 +20,7 @@ loop-k-preserved g c = record {
   done = c.in_ok-done.ensures.done;
   state = SameState-trans _ _ _ c.loop-k.invariant.state c.read_pass_pages.ensures.state;
   keeps = Keeps-trans _ _ _ c.loop-k.invariant.keeps c.read_pass_pages.ensures.keeps;
-  counts = (let two = c.in_ok-done.ensures.counts.done refl in
+  counts = (let two = MakesPageCalls-done _ 2 0 _ _ (g.met.R.Rack.consistent c.loop-k.rack) refl c.in_ok-done.ensures.counts in
       subst (λ (n : ℕ). RaisesCounts 0 n 0 (g.R.Rack.view c.args.rack.now) (g.R.Rack.view c.read_pass_pages.new.rack))
       (let e : 2 * c.loop-k.k + 2 ≡ 2 * (c.loop-k.k + 1) = omega arith in e)
       (RaisesCounts-trans 0 (2 * c.loop-k.k) 0 0 2 0 _ _ _ c.loop-k.invariant.counts two));

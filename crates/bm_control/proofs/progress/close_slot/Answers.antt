@@ -1,10 +1,10 @@
-use Rattle.std.proofs.Common.{ℕ, refl, ap, sym, ◌∙◌, subst}
+use Rattle.std.proofs.Common.{ℕ, refl, ap, sym, ◌∙◌, subst, arith}
 use Rattle.std.proofs.lemmas.Result.{on_ok_weaker}
 use Rattle.bm_base.specs.Contents.{Contents, page_at}
 use Rattle.bm_rack.specs.Calls.{IsPage}
 use Rattle.bm_rack.specs.Frames.{DirtiesOnly}
 use Rattle.bm_control.proofs.ImageLemmas.{zeros_closed}
-use Rattle.bm_control.proofs.PageCallLemmas.{later}
+use Rattle.bm_control.proofs.PageCallLemmas.{early, later}
 use Rattle.bm_control.proofs.SoundLemmas.{sound_same}
 use Rattle.bm_control.proofs.MomentLemmas.{sound_closing_slot}
 use Rattle.bm_control.proofs.progress.close_slot.Goals as goal
@@ -36,3 +36,8 @@ returns-clause-closed g c told =
 pub returns-clause-from_open : goal.returns-clause-from_open
 returns-clause-from_open g c told opened =
     later _ 1 0 1 1 _ _ _ (g.met.R.Rack.consistent c.args.rack.now) c.read_page.ensures.counts c.write_page_durably.ensures.counts
+
+pub returns-clause-most : goal.returns-clause-most
+returns-clause-most g c =
+    early _ ⊥ 2 1 2 1 _ _ (λ e. e) (omega arith) (omega arith)
+    (later _ 1 0 1 1 _ _ _ (g.met.R.Rack.consistent c.args.rack.now) c.read_page.ensures.counts c.write_page_durably.ensures.counts)

@@ -1,4 +1,5 @@
 use Rattle.std.proofs.Common.{◌<◌, ◌+◌, Result, ℕ, refl, sym, ◌∙◌, subst, arith}
+use Rattle.bm_rack.proofs.CallLemmas.{MakesPageCalls-done}
 use Rattle.bm_control.specs.declared.state.ControlError.{ControlError}
 use Rattle.bm_base.specs.Shape.{loads_of}
 use Rattle.bm_control.specs.State.{SlotsAnswer}
@@ -38,10 +39,12 @@ pub returns-in_err-second-clause-gates : goal.returns-in_err-second-clause-gates
 returns-in_err-second-clause-gates g c told v at less one two first second =
     early _ _ (one + two) 0 (one + two) 0 _ _ (error_fails c.from_residual-in_err-second.result _ c.from_residual-in_err-second.ensures.1)
     (omega arith) (omega arith)
-    (later _ one 0 two 0 _ _ _ (g.met.R.Rack.consistent c.args.rack.now) ((c.in_ok-first.ensures.gate told v at one first).done refl)
+    (later _ one 0 two 0 _ _ _ (g.met.R.Rack.consistent c.args.rack.now)
+    (MakesPageCalls-done _ one 0 _ _ (g.met.R.Rack.consistent c.args.rack.now) refl (c.in_ok-first.ensures.gate told v at one first))
     (c.in_err-second.ensures.gate told v (c.read_slot.ensures.state.contents ∙ at) two second))
 
 pub returns-clause-gates : goal.returns-clause-gates
 returns-clause-gates g c told v at less one two first second =
-    later _ one 0 two 0 _ _ _ (g.met.R.Rack.consistent c.args.rack.now) ((c.in_ok-first.ensures.gate told v at one first).done refl)
+    later _ one 0 two 0 _ _ _ (g.met.R.Rack.consistent c.args.rack.now)
+    (MakesPageCalls-done _ one 0 _ _ (g.met.R.Rack.consistent c.args.rack.now) refl (c.in_ok-first.ensures.gate told v at one first))
     (c.in_ok-second.ensures.gate told v (c.read_slot.ensures.state.contents ∙ at) two second)

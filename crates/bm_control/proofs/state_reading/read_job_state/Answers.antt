@@ -1,6 +1,7 @@
 use Rattle.std.proofs.Common.{◌≡◌, ◌+◌, ◌*◌, List, Result, ℕ, refl, sym, ◌∙◌, subst, arith}
 use Rattle.bm_rack.specs.Frames.{RaisesCounts}
 use Rattle.bm_rack.proofs.FrameLemmas.{RaisesCounts-trans}
+use Rattle.bm_rack.proofs.CallLemmas.{MakesPageCalls-done}
 use Rattle.bm_control.specs.declared.state.SlateState.{SlateState}
 use Rattle.bm_control.specs.declared.state.ControlError.{ControlError}
 use Rattle.bm_control.specs.Bodies.{IsJobBody}
@@ -89,4 +90,5 @@ returns-clause-slots g c told v at less one two first second =
     subst (λ (n : ℕ). RaisesCounts 0 n 0 (g.R.Rack.view c.args.rack.now) (g.R.Rack.view c.read_progress.new.rack))
     (let e : 1 + (2 * c.in-Some.found.1 + (one + two)) ≡ 1 + 2 * c.in-Some.found.1 + (one + two) = omega arith in e)
     (RaisesCounts-trans 0 1 0 0 (2 * c.in-Some.found.1 + (one + two)) 0 _ _ _ c.page_of.ensures.counts
-    ((c.in_ok-done.ensures.gates told v (c.page_of.ensures.state.contents ∙ at) less one two first second).done refl))
+    (MakesPageCalls-done _ (2 * c.in-Some.found.1 + (one + two)) 0 _ _ (g.met.R.Rack.consistent c.page_of.new.rack) refl
+    (c.in_ok-done.ensures.gates told v (c.page_of.ensures.state.contents ∙ at) less one two first second)))

@@ -1,4 +1,5 @@
 use Rattle.std.proofs.Common.{◌+◌, ◌*◌, Result, ℕ, refl, sym, ◌∙◌, subst, arith}
+use Rattle.bm_rack.proofs.CallLemmas.{MakesPageCalls-done}
 use Rattle.bm_control.specs.declared.state.ControlError.{ControlError}
 use Rattle.bm_control.specs.State.{ProgressAnswer}
 use Rattle.bm_control.proofs.EqualLemmas.{error_is, error_fails}
@@ -23,7 +24,8 @@ pub returns-in_err-part-clause-gates : goal.returns-in_err-part-clause-gates
 returns-in_err-part-clause-gates g c told v at less one two first second =
     early _ _ (2 * c.args.passes + (one + two)) 0 (2 * c.args.passes + (one + two)) 0 _ _
     (error_fails c.from_residual-in_err-part.result _ c.from_residual-in_err-part.ensures.1) (omega arith) (omega arith)
-    (later _ (2 * c.args.passes) 0 (one + two) 0 _ _ _ (g.met.R.Rack.consistent c.args.rack.now) (c.in_ok-done.ensures.counts.done refl)
+    (later _ (2 * c.args.passes) 0 (one + two) 0 _ _ _ (g.met.R.Rack.consistent c.args.rack.now)
+    (MakesPageCalls-done _ (2 * c.args.passes) 0 _ _ (g.met.R.Rack.consistent c.args.rack.now) refl c.in_ok-done.ensures.counts)
     (c.in_err-part.ensures.gates told v (c.read_passes.ensures.state.contents ∙ at) less one two first second))
 
 pub returns-clause-answer : goal.returns-clause-answer
@@ -32,5 +34,6 @@ returns-clause-answer g c told v at =
 
 pub returns-clause-gates : goal.returns-clause-gates
 returns-clause-gates g c told v at less one two first second =
-    later _ (2 * c.args.passes) 0 (one + two) 0 _ _ _ (g.met.R.Rack.consistent c.args.rack.now) (c.in_ok-done.ensures.counts.done refl)
+    later _ (2 * c.args.passes) 0 (one + two) 0 _ _ _ (g.met.R.Rack.consistent c.args.rack.now)
+    (MakesPageCalls-done _ (2 * c.args.passes) 0 _ _ (g.met.R.Rack.consistent c.args.rack.now) refl c.in_ok-done.ensures.counts)
     (c.in_ok-part.ensures.gates told v (c.read_passes.ensures.state.contents ∙ at) less one two first second)

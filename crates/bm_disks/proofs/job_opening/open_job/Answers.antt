@@ -1,7 +1,7 @@
 use Rattle.std.proofs.Common.{Err, ap}
 use Rattle.bm_rack.proofs.FrameLemmas.{HasCause-later}
 use Rattle.bm_control.proofs.SoundLemmas.{sound_synced, sound_same}
-use Rattle.bm_job.proofs.BeginLemmas.{settled_most}
+use Rattle.bm_job.proofs.BeginCallLemmas.{settled_most}
 use Rattle.bm_disks.proofs.OpenLemmas.{answer_refused, answer_read, answer_good, answer_complete, answer_means, consistent_of, failed_of}
 use Rattle.bm_disks.proofs.OpenLemmas.{never_failed}
 use Rattle.bm_disks.proofs.job_opening.open_job.Goals as goal

@@ -1,6 +1,7 @@
-use Rattle.std.proofs.Common.{◌≡◌, ◌+◌, Some, Err, refl, ◌∙◌}
+use Rattle.std.proofs.Common.{◌≡◌, ◌+◌, Some, Err, refl, ◌∙◌, arith}
 use Rattle.bm_base.specs.Shape.{dims_of, stripes}
 use Rattle.bm_rack.proofs.FrameLemmas.{HasCause-later, Keeps-trans}
+use Rattle.bm_rack.proofs.CallLemmas.{MakesPageCalls-done, MovesRows-part}
 use Rattle.bm_disks.proofs.GateLemmas.{both_closed, both_in_images, both_sound, shut_closed}
 use Rattle.bm_disks.proofs.LoadingLemmas.{closed_through, closed_refusal, loading_frame, input_kept, job_gate_kept, loading_exact}
 use Rattle.bm_disks.proofs.OpensLemmas.{opens_old, opens_none, opens_new}
@@ -97,14 +98,8 @@ returns-in_ok-open_load-in-Ok-clause-gates g c told = record {
 pub returns-in_ok-open_load-in-Ok-clause-exact : goal.returns-in_ok-open_load-in-Ok-clause-exact
 returns-in_ok-open_load-in-Ok-clause-exact g c told ok one three load job =
     loading_exact (one + three) (stripes c.args.shape.now) _ _ _ _ (c.in_ok-shut_gates.ensures.exact told refl one three load job)
-    (record {
-      done = λ _. c.in-Ok.ensures.moved.done refl;
-      low = c.in-Ok.ensures.moved.low;
-      high = c.in-Ok.ensures.moved.high;
-      pages = c.in-Ok.ensures.moved.pages;
-      syncs = c.in-Ok.ensures.moved.syncs;
-    })
-    (c.in_ok-open_load-in-Ok.ensures.counts.done refl)
+    (MovesRows-part _ _ _ (Unit {0}) _ _ (omega arith) (λ _. (refl, refl)) c.in-Ok.ensures.moved)
+    (MakesPageCalls-done _ 2 2 _ _ (g.met.R.Rack.consistent c.read_input.new.rack) refl c.in_ok-open_load-in-Ok.ensures.counts)
 
 pub returns-in_err-shut_gates-clause-opened : goal.returns-in_err-shut_gates-clause-opened
 returns-in_err-shut_gates-clause-opened g c tells stands told sound =

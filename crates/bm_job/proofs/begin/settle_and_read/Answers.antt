@@ -1,4 +1,5 @@
-use Rattle.bm_job.proofs.BeginLemmas.{settled_error, settled_pages, settled_most}
+use Rattle.bm_job.proofs.BeginLemmas.{settled_error}
+use Rattle.bm_job.proofs.BeginCallLemmas.{settled_pages, settled_most}
 use Rattle.bm_job.proofs.begin.settle_and_read.Goals as goal
 
 pub returns-in_err-read_state-clause-answer : goal.returns-in_err-read_state-clause-answer

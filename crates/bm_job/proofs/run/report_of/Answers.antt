@@ -4,7 +4,7 @@ use Rattle.bm_base.specs.Shape.{load_stripes, loads_of}
 use Rattle.bm_job.specs.declared.machine.Machine.{Machine}
 use Rattle.bm_job.specs.Follows.{loads_moved}
 use Rattle.bm_job.specs.Runs.{load_rows, loads_left, IsEnd}
-use Rattle.bm_job.proofs.PaceLemmas.{loads_all, loads_few}
+use Rattle.bm_job.proofs.LeftLemmas.{loads_few, loads_all}
 use Rattle.bm_job.proofs.RangeLemmas.{few_passes}
 use Rattle.bm_job.proofs.RunLemmas.{rows_fit}
 use Rattle.bm_job.proofs.run.report_of.Goals as goal

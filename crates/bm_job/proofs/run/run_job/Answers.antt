@@ -12,9 +12,9 @@ use Rattle.bm_job.specs.declared.answers.RunError.TheVariants.{Failed}
 use Rattle.bm_job.specs.Runs.{IsWorkUnit, IsRunUnit, RunAnswer}
 use Rattle.bm_job.proofs.CallLemmas.{no_refusal, call_then}
 use Rattle.bm_job.proofs.EndLemmas.{start_run, work_run, begin_images, end_images}
-use Rattle.bm_job.proofs.EndLemmas.{report_told, turn_refused, begin_complete, turn_complete, run_done, end_most, keeps_open}
+use Rattle.bm_job.proofs.EndLemmas.{report_told, turn_refused, begin_complete, turn_complete, run_done, keeps_open}
 use Rattle.bm_job.proofs.FailedLemmas.{begin_failed, end_failed}
-use Rattle.bm_job.proofs.RunCallLemmas.{both_calls, most_begun, most_run, begin_calls, run_calls}
+use Rattle.bm_job.proofs.RunCallLemmas.{both_calls, most_begun, most_run, begin_calls, run_calls, end_most}
 use Rattle.bm_job.proofs.RunLemmas.{same_input_then}
 use Rattle.bm_job.proofs.TurnLemmas.{refusal_of}
 use Rattle.bm_job.proofs.run.run_job.Goals as goal
@@ -78,7 +78,7 @@ pub returns-in_err-end-clause-most : goal.returns-in_err-end-clause-most
 returns-in_err-end-clause-most g c =
     end_most c.args.shape.now c.args.job.now c.in_ok-start.start (g.R.Rack.view c.args.rack.now) (g.R.Rack.view c.begin.new.rack)
     (g.R.Rack.view c.take_turns.new.rack)
-    c.in_ok-start.ensures.fresh c.begin.ensures.moves c.take_turns.ensures.counts.moves_low c.take_turns.ensures.counts.moves_high
+    _ c.in_ok-start.ensures.fresh c.begin.ensures.moves c.take_turns.ensures.counts.moves
 
 pub returns-in_err-end-clause-failed : goal.returns-in_err-end-clause-failed
 returns-in_err-end-clause-failed g c told_stands told_contents sound is =
@@ -167,7 +167,7 @@ pub returns-clause-most : goal.returns-clause-most
 returns-clause-most g c =
     end_most c.args.shape.now c.args.job.now c.in_ok-start.start (g.R.Rack.view c.args.rack.now) (g.R.Rack.view c.begin.new.rack)
     (g.R.Rack.view c.take_turns.new.rack)
-    c.in_ok-start.ensures.fresh c.begin.ensures.moves c.take_turns.ensures.counts.moves_low c.take_turns.ensures.counts.moves_high
+    _ c.in_ok-start.ensures.fresh c.begin.ensures.moves c.take_turns.ensures.counts.moves
 
 pub returns-clause-input : goal.returns-clause-input
 returns-clause-input g c =

@@ -17,5 +17,6 @@ overflow_mul-result c =
 pub returns-clause-row : goal.returns-clause-row
 returns-clause-row c =
     let s = c.args.self.now in
-    let whole : 1 * 2 ^ (s.b + s.d) % 2 ^ 64 ≡ 2 ^ (s.b + s.d) = one_shl (s.b + s.d) 64 (omega (arith, load_bits s.m s.width s.keeps.record_some s.keeps.load, s.keeps.stripe)) in
+    let whole : 1 * 2 ^ (s.b + s.d) % 2 ^ 64 ≡ 2 ^ (s.b + s.d) = one_shl (s.b + s.d) 64
+    (omega (arith, load_bits s.m s.width s.keeps.record_some s.keeps.load, s.keeps.stripe)) in
     rw (c.from.ensures, whole) (ap (λ x. x * s.width) (pow-add 2 s.b s.d) ∙ omega arith)

@@ -3,7 +3,7 @@ use Rattle.bm_base.specs.Shape.{dims_of, loads_of}
 use Rattle.bm_control.specs.PageCalls.{IsStartPage}
 use Rattle.bm_job.proofs.CallLemmas.{call_then}
 use Rattle.bm_control.proofs.WrongPageLemmas.{sound_no_bad}
-use Rattle.bm_job.proofs.BeginCallLemmas.{most_read, most_started, begin_read, counts_started, counts_loaded}
+use Rattle.bm_job.proofs.BeginCallLemmas.{most_read, most_started, begin_read, begin_started, counts_started, counts_loaded}
 use Rattle.bm_job.proofs.BeginLemmas.{bad_of, refused_by, resumed_of, loaded_of, told_of, alone_of, resumed_follows, resumed_gone}
 use Rattle.bm_job.proofs.BeginLemmas.{kept_unless, start_input}
 use Rattle.bm_job.proofs.machine.Machine.begin.Goals as goal
@@ -64,6 +64,13 @@ returns-in-Some-clause-follows g c told_stands told_contents sound =
 
 pub returns-in-Some-clause-pages : goal.returns-in-Some-clause-pages
 returns-in-Some-clause-pages g c told = begin_read _ _ _ _ (c.settle_and_read.ensures.pages told)
+
+pub returns-in-None-clause-pages : goal.returns-in-None-clause-pages
+returns-in-None-clause-pages g c told =
+    let is = loaded_of c.args.shape.now c.args.job.now c.in_ok-state.state c.in_ok-machine.field-0 c.in-None.is c.in_ok-machine.ensures in
+    let v = (g.R.Rack.view c.args.rack.now).contents in
+    let loaded = alone_of c.args.shape.now v (told_of v v _ _ refl is (c.in_ok-state.ensures.answer told)) in
+    begin_started v (length c.args.plan.now.forms) _ _ _ loaded.job_gate (c.settle_and_read.ensures.pages told) c.start.ensures.counts
 
 pub returns-in-None-clause-kept : goal.returns-in-None-clause-kept
 returns-in-None-clause-kept g c = kept_unless c.start.result _ c.start.ensures.failed

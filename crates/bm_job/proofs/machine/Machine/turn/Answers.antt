@@ -1,4 +1,7 @@
 use Rattle.bm_base.specs.Shape.{dims_of}
+use Rattle.bm_job.specs.Turns.{IsTurnUnit}
+use Rattle.bm_job.proofs.CallLemmas.{call_of}
+use Rattle.bm_job.proofs.LeftLemmas.{moved_one}
 use Rattle.bm_job.proofs.TurnLemmas.{left_of, refusal_of, turn_sure, rest_sure, turn_input, has_next}
 use Rattle.bm_job.proofs.machine.Machine.turn.Goals as goal
 
@@ -35,3 +38,10 @@ returns-in-Err-clause-good g c told_stands told_contents follows page is =
 
 pub returns-in-Ok-clause-read : goal.returns-in-Ok-clause-read
 returns-in-Ok-clause-read g c told left none = c.in-Ok.ensures.read told none
+
+pub returns-in-Ok-clause-moved : goal.returns-in-Ok-clause-moved
+returns-in-Ok-clause-moved g c left = moved_one _ _ c.in-Ok.ensures.next
+
+pub returns-in-Err-clause-call : goal.returns-in-Err-clause-call
+returns-in-Err-clause-call g c =
+    call_of (IsTurnUnit c.args.self.now) (IsTurnUnit c.args.self.now) _ _ _ _ (λ u is. is) (refusal_of _ _) c.in-Err.ensures.call
