@@ -1,10 +1,10 @@
 //! What `carry` writes: each map, in one piece.
 
-use crate::calling::said;
-use crate::texts::{DONE, FLIPPED, GRAYED, INPUT, REVERSED};
 use bm_memrack::SureRack;
 use bm_rack::Rack;
+use call_helpers::said;
 use std::test::Fail;
+use test_helpers::{DONE, FLIPPED, GRAYED, INPUT, REVERSED};
 
 const TWO_DISKS: &str = "n = 4\nb = 1\nd = 1\nm = 3\nwidth = 1";
 

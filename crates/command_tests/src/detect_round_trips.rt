@@ -1,22 +1,19 @@
 //! What `detect` writes is a job text that undoes each kind of map.
 
-use crate::calling::said;
 use bm_memrack::SureRack;
+use call_helpers::said;
 use std::alloc::Global;
 use std::test::Fail;
-use test_helpers::records_of;
+use test_helpers::counted;
 
 const SHAPE: &str = "[shape]\nn = 4\nb = 1\nd = 1\nm = 3\nwidth = 8";
 
 // The numbers 0 to 15 carried by a map, and then by the map that is detected of what came out.
 fn there_and_back(alloc: Global, map: &str) -> Option<Vec<u8>> {
-    let counted = records_of(
-        alloc,
-        &[0, 1, 2, 3, 4, 5, 6, 7, 8, 9, 10, 11, 12, 13, 14, 15],
-    )?;
+    let numbers = counted(alloc, 16)?;
     let job = format!(in alloc; "{SHAPE}\n[map]\n{map}\n").ok()?;
     let mut rack = SureRack::new(alloc);
-    let there = said(alloc, "carry job", job.as_str(), &counted, &mut rack)?;
+    let there = said(alloc, "carry job", job.as_str(), &numbers, &mut rack)?;
     said(
         alloc,
         "load job",
@@ -46,14 +43,10 @@ fn each_kind_undone(rt: HostRuntime) -> Result<(), Fail> {
         "kind = \"bits\"\nbits = [2, 0, 3, 1]",
         "kind = \"rows\"\nrows = [3, 6, 4, 10]\ncomplement = 5",
     ];
-    let counted = records_of(
-        rt.alloc(),
-        &[0, 1, 2, 3, 4, 5, 6, 7, 8, 9, 10, 11, 12, 13, 14, 15],
-    )
-    .ok_or("memory")?;
+    let numbers = counted(rt.alloc(), 16).ok_or("memory")?;
     for map in maps {
         let back = there_and_back(rt.alloc(), map).ok_or("memory")?;
-        assert_eq!(rt; back.as_slice(), counted.as_slice(), "{map}");
+        assert_eq!(rt; back.as_slice(), numbers.as_slice(), "{map}");
     }
     Ok(())
 }

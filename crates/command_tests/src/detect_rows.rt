@@ -1,12 +1,11 @@
 //! What `detect` writes for lists of addresses.
 
-use crate::calling::{Answer, said};
 use crate::steps::{first_wrong, step};
-use crate::texts::DONE;
 use bm_memrack::SureRack;
+use call_helpers::{Answer, said};
 use std::alloc::Global;
 use std::test::Fail;
-use test_helpers::records_of;
+use test_helpers::{DONE, records_of};
 
 // Four numbers, two in memory, on one disk.
 const FOUR: &str = "[shape]\nn = 2\nb = 0\nd = 0\nm = 1\nwidth = 8\n[map]\nkind = \"identity\"\n";
@@ -72,9 +71,8 @@ fn lists_of_four(rt: HostRuntime) -> Result<(), Fail> {
     for case in cases {
         let line = case.line;
         let answer = detected(rt.alloc(), FOUR, &case.list).ok_or("memory")?;
-        assert_eq!(rt; answer.code, case.code, "{line}");
-        assert_eq!(rt; answer.out.taken(), case.out.as_bytes(), "{line}");
-        assert_eq!(rt; answer.err.taken(), line.as_bytes(), "{line}");
+        let as_wanted = answer.says(case.code, case.out.as_bytes(), line);
+        assert!(rt; as_wanted, "{line}");
     }
     Ok(())
 }
@@ -82,10 +80,13 @@ fn lists_of_four(rt: HostRuntime) -> Result<(), Fail> {
 // A number that is no address comes before a difference at a lower record.
 #[test]
 fn range_before_difference(rt: HostRuntime) -> Result<(), Fail> {
-    let answer = detected(rt.alloc(), EIGHT, &[0, 1, 2, 0, 4, 5, 6, 9]).ok_or("memory")?;
-    assert_eq!(rt; answer.err.taken(), b"bmmc: out of range 7 9\n".as_slice());
-    let answer = detected(rt.alloc(), EIGHT, &[0, 1, 2, 0, 4, 5, 6, 6]).ok_or("memory")?;
-    assert_eq!(rt; answer.err.taken(), b"bmmc: not affine 3 0 3\n".as_slice());
+    for (last, line) in [
+        (9, "bmmc: out of range 7 9\n"),
+        (6, "bmmc: not affine 3 0 3\n"),
+    ] {
+        let answer = detected(rt.alloc(), EIGHT, &[0, 1, 2, 0, 4, 5, 6, last]).ok_or("memory")?;
+        assert_eq!(rt; answer.err.taken(), line.as_bytes());
+    }
     Ok(())
 }
 
@@ -113,11 +114,10 @@ fn other_refusals(rt: HostRuntime) -> Result<(), Fail> {
         step("detect job", TWO_DISKS, 13, &[], "bmmc: wrong dims\n"),
     ];
     let mut rack = SureRack::new(rt.alloc());
-    assert_eq!(rt; first_wrong(rt.alloc(), &steps, &mut rack), None);
+    let wrong = first_wrong(rt.alloc(), &steps, &mut rack);
     let input = records_of(rt.alloc(), &[0, 1, 2, 3]).ok_or("memory")?;
     let loaded = said(rt.alloc(), "load job", FOUR, &input, &mut rack).ok_or("memory")?;
-    assert_eq!(rt; loaded.code, 0);
     let other = said(rt.alloc(), "detect job", MORE_MEMORY, &[], &mut rack).ok_or("memory")?;
-    assert_eq!(rt; other.code, 16);
+    assert_eq!(rt; (wrong, loaded.code, other.code), (None, 0, 16));
     Ok(())
 }

@@ -1,9 +1,9 @@
 //! What `drill` writes.
 
 use crate::steps::{Exchange, first_wrong, step};
-use crate::texts::DONE;
 use bm_memrack::SureRack;
 use std::test::Fail;
+use test_helpers::DONE;
 
 // Drills with no stop, and with a stop at the write of the first gate, which stays or is zeros.
 // The digests were found apart from the code.
@@ -92,8 +92,9 @@ fn refusals() -> [Exchange; 5] {
 #[test]
 fn reports(rt: HostRuntime) -> Result<(), Fail> {
     let mut rack = SureRack::new(rt.alloc());
-    assert_eq!(rt; first_wrong(rt.alloc(), &drills(), &mut rack), None);
-    assert_eq!(rt; first_wrong(rt.alloc(), &refusals(), &mut rack), None);
+    let drilled = first_wrong(rt.alloc(), &drills(), &mut rack);
+    let refused = first_wrong(rt.alloc(), &refusals(), &mut rack);
+    assert_eq!(rt; (drilled, refused), (None, None));
     Ok(())
 }
 

@@ -1,15 +1,14 @@
 //! Commands over devices that fail, and what the next command finds.
 
-use crate::calling::{said, said_over};
 use crate::steps::{
     Exchange, done, fed, first_wrong, loaded, refused, run_after_all, run_anew, step,
 };
-use crate::texts::{DONE, INPUT, MARKED_REVERSAL, RACK_FAULT, REVERSED};
 use bm_memrack::{MemRack, MemSink, MemSource, SureSource, UntoldRack};
 use bm_rack::{Found, Rack, StopRack};
+use call_helpers::{said, said_over};
 use std::alloc::Global;
 use std::test::Fail;
-use test_helpers::{REVERSAL, text_source};
+use test_helpers::{DONE, INPUT, MARKED_REVERSAL, RACK_FAULT, REVERSAL, REVERSED, text_source};
 
 // A rack whose device call of this number fails.
 fn failing(alloc: Global, call: u64) -> Option<MemRack> {

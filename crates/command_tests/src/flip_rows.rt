@@ -1,12 +1,11 @@
 //! What `flip` answers and writes.
 
-use crate::calling::{said, said_over};
-use crate::texts::{BYTES, DONE, FLIPPED};
 use bm_memrack::{MemRack, MemSink, MemSource, SureRack, SureSource};
 use bm_named::identity;
 use bm_top::Status;
+use call_helpers::{said, said_over};
 use std::test::Fail;
-use test_helpers::{has_moved, pattern};
+use test_helpers::{DONE, FLIPPED, ONE_MORE, has_moved, pattern};
 
 // A line of words, how many bytes of input there are, and what comes of it: the status, its code,
 // how many bytes of output, and the line on standard error.
@@ -92,7 +91,9 @@ fn rows_of_flip(rt: HostRuntime) -> Result<(), Fail> {
     for (words, input, status, code, out, line) in ROWS {
         let wanted = &FLIPPED[..out.min(16)];
         let mut rack = SureRack::new(rt.alloc());
-        let said = said(rt.alloc(), words, "", &BYTES[..input.min(17)], &mut rack).ok_or("memory")?;
+        let said = said(rt.alloc(), words, "", &ONE_MORE[..input.min(17)], &mut rack).ok_or(
+            "memory",
+        )?;
         assert_eq!(rt;
             (
                 said.status,
@@ -147,9 +148,14 @@ fn every_record_moves(rt: HostRuntime) -> Result<(), Fail> {
 fn a_second_flip_finds_disks(rt: HostRuntime) -> Result<(), Fail> {
     let mut rack = SureRack::new(rt.alloc());
     for (want, size) in [(Status::Done, 16), (Status::Exists, 0)] {
-        let said = said(rt.alloc(), "flip 4 1 1 3 1 15", "", &BYTES[..16], &mut rack).ok_or(
-            "memory",
-        )?;
+        let said = said(
+            rt.alloc(),
+            "flip 4 1 1 3 1 15",
+            "",
+            &ONE_MORE[..16],
+            &mut rack,
+        )
+        .ok_or("memory")?;
         assert_eq!(rt;
             (said.status, said.out.taken()),
             (want, &FLIPPED[..size.min(16)])

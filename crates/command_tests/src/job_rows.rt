@@ -1,11 +1,11 @@
 //! What `plan` answers and writes for job texts.
 
-use crate::calling::{Answer, said, said_over};
-use crate::texts::DONE;
 use bm_memrack::{MemSink, MemSource, SureRack, SureSource};
 use bm_rack::Source;
+use call_helpers::{Answer, said, said_over};
 use std::alloc::Global;
 use std::test::Fail;
+use test_helpers::DONE;
 
 /// The shape of sixteen records of one byte.
 pub const SIXTEEN: &str = "n = 4\nb = 1\nd = 1\nm = 3\nwidth = 1";

@@ -1,12 +1,11 @@
 //! Commands over more records.
 
-use crate::calling::{Answer, said_over};
-use crate::texts::DONE;
 use bm_memrack::{MemSink, SureRack, SureSource};
 use bm_rack::Rack;
+use call_helpers::{Answer, said_over};
 use std::alloc::Global;
 use std::test::Fail;
-use test_helpers::{counted, is_transposed, text_source};
+use test_helpers::{DONE, TRANSPOSE, counted, is_transposed, text_source};
 
 // The most bytes that are carried here.
 const MOST: usize = 8 << 20;
@@ -23,11 +22,9 @@ fn carried<R: Rack>(alloc: Global, job: &str, input: Vec<u8>, rack: &mut R) -> O
 // 4096 for load and dump.
 #[test]
 fn transpose(rt: HostRuntime) -> Result<(), Fail> {
-    let job =
-        "[shape]\nn = 20\nb = 7\nd = 2\nm = 14\nwidth = 8\n[map]\nkind = \"transpose\"\np = 10\n";
     let input = counted(rt.alloc(), 1 << 20).ok_or("memory")?;
     let mut rack = SureRack::new(rt.alloc());
-    let said = carried(rt.alloc(), job, input, &mut rack).ok_or("memory")?;
+    let said = carried(rt.alloc(), TRANSPOSE, input, &mut rack).ok_or("memory")?;
     assert_eq!(rt;
         (
             said.err.taken(),

@@ -3,8 +3,6 @@
 #![tactic(auto)]
 
 #[cfg(test)]
-mod calling;
-#[cfg(test)]
 mod carry_rows;
 #[cfg(test)]
 mod detect_round_trips;
@@ -26,7 +24,5 @@ mod map_rows;
 mod session_rows;
 #[cfg(test)]
 mod steps;
-#[cfg(test)]
-mod texts;
 #[cfg(test)]
 mod transform_rows;

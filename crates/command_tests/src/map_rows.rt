@@ -1,8 +1,8 @@
 //! What `plan` answers for each kind of map.
 
 use crate::job_rows::{SIXTEEN, answer_of};
-use crate::texts::DONE;
 use std::test::Fail;
+use test_helpers::DONE;
 
 // A table of the map, with the status and the line on error of a job by it.
 const MAPS: [(&str, u8, &str); 23] = [

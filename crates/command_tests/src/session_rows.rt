@@ -3,11 +3,13 @@
 use crate::steps::{
     Exchange, done, fed, first_wrong, loaded, refused, run_after_all, run_anew, step,
 };
-use crate::texts::{BYTES, DONE, FLIPPED, GRAYED, INPUT, MARKED_REVERSAL, REVERSED, SMALL_MEMORY};
 use bm_memrack::MemRack;
 use std::alloc::Global;
 use std::test::Fail;
-use test_helpers::{GRAY, ONE_DISK, REVERSAL};
+use test_helpers::{
+    DONE, FLIPPED, GRAY, GRAYED, INPUT, MARKED_REVERSAL, ONE_DISK, ONE_MORE, REVERSAL, REVERSED,
+    SMALL_MEMORY,
+};
 
 // A job that is done is done again at no transfer; another job waits until it is dropped.
 fn jobs_in_a_row() -> [Exchange; 14] {
@@ -37,7 +39,7 @@ fn jobs_in_a_row() -> [Exchange; 14] {
 
 // An input of another size is refused, and nothing is loaded after it.
 fn wrong_inputs() -> [Exchange; 10] {
-    let short = BYTES.split_at(15).0;
+    let short = ONE_MORE.split_at(15).0;
     [
         done("new job", &[]),
         loaded(),
@@ -52,7 +54,14 @@ fn wrong_inputs() -> [Exchange; 10] {
         refused("run job", 15, "bmmc: not loaded\n"),
         refused("load job", 9, "bmmc: input short 0\n"),
         refused("status job", 15, "bmmc: not loaded\n"),
-        fed("load job", REVERSAL, &BYTES, 10, &[], "bmmc: input long\n"),
+        fed(
+            "load job",
+            REVERSAL,
+            ONE_MORE,
+            10,
+            &[],
+            "bmmc: input long\n",
+        ),
         refused("dump job", 15, "bmmc: not loaded\n"),
         loaded(),
         run_anew(),

@@ -1,10 +1,9 @@
 //! Rows of commands over one rack, and what each of them is to say.
 
-use crate::calling::said;
-use crate::texts::{DONE, INPUT};
 use bm_rack::Rack;
+use call_helpers::said;
 use std::alloc::Global;
-use test_helpers::REVERSAL;
+use test_helpers::{DONE, INPUT, REVERSAL};
 
 /// A line of words, the text of its job and its input, and the status, the output and the line on
 /// standard error that it is to have.
@@ -82,10 +81,7 @@ pub fn first_wrong<R: Rack>(alloc: Global, steps: &[Exchange], rack: &mut R) -> 
             return Some(i);
         };
         let out: &[u8] = step.out;
-        if said.code != step.code
-            || said.out.taken() != out
-            || said.err.taken() != step.err.as_bytes()
-        {
+        if !said.says(step.code, out, step.err) {
             return Some(i);
         }
     }

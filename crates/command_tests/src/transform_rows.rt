@@ -1,13 +1,12 @@
 //! Jobs of the transform, from the words on.
 
-use crate::calling::said;
 use crate::steps::{first_wrong, step};
-use crate::texts::DONE;
 use bm_memrack::SureRack;
 use bm_rack::Rack;
+use call_helpers::said;
 use std::alloc::Global;
 use std::test::Fail;
-use test_helpers::records_of;
+use test_helpers::{DONE, records_of};
 
 // Four numbers, two in memory, on one disk.
 const FOUR: &str = "[shape]\nn = 2\nb = 0\nd = 0\nm = 1\nwidth = 8\n[map]\nkind = \"walsh\"\n";
@@ -30,17 +29,16 @@ fn carries(alloc: Global, job: &str, input: &[u64], out: &[u64], moves: u64) -> 
 // input, each number times N.
 #[test]
 fn transforms(rt: HostRuntime) -> Result<(), Fail> {
+    let a = rt.alloc();
     let there = [10, 18446744073709551614, 18446744073709551612, 0];
-    let carried = carries(rt.alloc(), FOUR, &[1, 2, 3, 4], &there, 32 + 8);
-    assert_eq!(rt; carried, Some(true));
-    let back = carries(rt.alloc(), FOUR, &there, &[4, 8, 12, 16], 32 + 8);
-    assert_eq!(rt; back, Some(true));
     let ones = [1; 16];
     let sum = [16, 0, 0, 0, 0, 0, 0, 0, 0, 0, 0, 0, 0, 0, 0, 0];
-    assert_eq!(rt;
-        carries(rt.alloc(), SIXTEEN, &ones, &sum, 32 + 8),
-        Some(true)
-    );
+    let carried = [
+        carries(a, FOUR, &[1, 2, 3, 4], &there, 32 + 8),
+        carries(a, FOUR, &there, &[4, 8, 12, 16], 32 + 8),
+        carries(a, SIXTEEN, &ones, &sum, 32 + 8),
+    ];
+    assert_eq!(rt; carried, [Some(true); 3]);
     Ok(())
 }
 

@@ -29,21 +29,25 @@ fn a_folder_is_made_anew(rt: HostRuntime) -> Result<(), Fail> {
     let name = "a_folder_is_made_anew";
     let path = "test-folders/a_folder_is_made_anew";
     enter_empty_folder(&rt, name)?;
-    assert_eq!(rt; names(&rt)?, 0);
+    let empty = names(&rt)?;
     litter(&rt)?;
-    assert_eq!(rt; names(&rt)?, 3);
+    let littered = names(&rt)?;
     env::set_current_dir(&rt, "../..")?;
     enter_empty_folder(&rt, name)?;
-    assert_eq!(rt; names(&rt)?, 0, "after files");
+    let after_files = names(&rt)?;
     env::set_current_dir(&rt, "../..")?;
     fs::remove_dir(&rt, path)?;
     fs::write(&rt, path, b"text")?;
     enter_empty_folder(&rt, name)?;
-    assert_eq!(rt; names(&rt)?, 0, "after a file in its place");
+    let after_a_file = names(&rt)?;
     env::set_current_dir(&rt, "../..")?;
     fs::remove_dir(&rt, path)?;
     symlink(&rt, "nowhere", path)?;
     enter_empty_folder(&rt, name)?;
-    assert_eq!(rt; names(&rt)?, 0, "after a link in its place");
+    let after_a_link = names(&rt)?;
+    assert_eq!(rt;
+        [empty, littered, after_files, after_a_file, after_a_link],
+        [0, 3, 0, 0, 0]
+    );
     Ok(())
 }

@@ -57,23 +57,44 @@ fn move_pages<R: Rack>(rack: &mut R, one: &mut [u8; 512], two: &mut [u8; 512]) -
     rack.sync()
 }
 
+/// Whether a file can be read and holds these bytes.
+pub fn holds(rt: &HostRuntime, path: &str, want: &[u8]) -> bool {
+    match fs::read(rt, path) {
+        Ok(bytes) => bytes.as_slice() == want,
+        Err(_) => false,
+    }
+}
+
 #[test]
 fn a_rack_of_files_keeps_its_blocks(rt: HostRuntime) -> Result<(), Fail> {
     enter_empty_folder(&rt, "a_rack_of_files_keeps_its_blocks")?;
     let mut rack = FileRack::new(&rt, rt.alloc()).ok().ok_or("memory")?;
-    assert_eq!(rt; rack.attach(&DIMS), Ok(Found::Absent));
-    assert_eq!(rt; rack.create(&TOO_LONG), Err(CreateError::Failed));
-    assert_eq!(rt; rack.create(&DIMS), Ok(()));
-    assert_eq!(rt; rack.create(&DIMS), Err(CreateError::Present));
+    let found = rack.attach(&DIMS);
+    let created = [
+        rack.create(&TOO_LONG),
+        rack.create(&DIMS),
+        rack.create(&DIMS),
+    ];
+    assert_eq!(rt;
+        (found, created),
+        (
+            Ok(Found::Absent),
+            [Err(CreateError::Failed), Ok(()), Err(CreateError::Present)]
+        )
+    );
     let mut row = [9; 8];
     let done = is_attached(&mut rack) && move_rows(&mut rack, &mut row).is_ok();
-    assert!(rt; done);
-    assert_eq!(rt; rack.rows(), 3);
-    assert_eq!(rt; row, *b"abcd\x09\x09\x09\x09");
-    let disk = fs::read(&rt, "bmmc-disk-00")?;
-    assert_eq!(rt; disk.as_slice(), b"\0\0\0\0abcdijkl".as_slice());
-    let disk = fs::read(&rt, "bmmc-disk-01")?;
-    assert_eq!(rt; disk.as_slice(), b"mnop\0\0\0\0efgh".as_slice());
+    assert_eq!(rt;
+        (done, rack.rows(), row),
+        (true, 3, *b"abcd\x09\x09\x09\x09")
+    );
+    assert_eq!(rt;
+        (
+            holds(&rt, "bmmc-disk-00", b"\0\0\0\0abcdijkl"),
+            holds(&rt, "bmmc-disk-01", b"mnop\0\0\0\0efgh")
+        ),
+        (true, true)
+    );
     Ok(())
 }
 
@@ -81,15 +102,16 @@ fn a_rack_of_files_keeps_its_blocks(rt: HostRuntime) -> Result<(), Fail> {
 fn a_rack_of_files_keeps_its_pages(rt: HostRuntime) -> Result<(), Fail> {
     enter_empty_folder(&rt, "a_rack_of_files_keeps_its_pages")?;
     let mut rack = FileRack::new(&rt, rt.alloc()).ok().ok_or("memory")?;
-    assert_eq!(rt; rack.create(&DIMS), Ok(()));
     let mut one = [0; 512];
     let mut two = [0; 512];
-    let done = is_attached(&mut rack) && move_pages(&mut rack, &mut one, &mut two).is_ok();
-    assert!(rt; done);
-    assert_eq!(rt; one, [5; 512]);
-    assert_eq!(rt; two, [6; 512]);
+    let done = rack.create(&DIMS).is_ok()
+        && is_attached(&mut rack)
+        && move_pages(&mut rack, &mut one, &mut two).is_ok();
     let slate = fs::read(&rt, "bmmc-slate")?;
-    assert_eq!(rt; slate.len(), 264192);
+    assert_eq!(rt;
+        (done, one == [5; 512], two == [6; 512], slate.len()),
+        (true, true, true, 264192)
+    );
     for (at, want) in [
         (511, 0),
         (512, 5),
@@ -109,8 +131,10 @@ fn a_rack_of_files_keeps_its_pages(rt: HostRuntime) -> Result<(), Fail> {
 fn another_set_of_files_is_something_else(rt: HostRuntime) -> Result<(), Fail> {
     enter_empty_folder(&rt, "another_set_of_files_is_something_else")?;
     let mut rack = FileRack::new(&rt, rt.alloc()).ok().ok_or("memory")?;
-    assert_eq!(rt; rack.create(&DIMS), Ok(()));
-    assert_eq!(rt; rack.attach(&TOO_LONG), Ok(Found::Other));
+    assert_eq!(rt;
+        (rack.create(&DIMS), rack.attach(&TOO_LONG)),
+        (Ok(()), Ok(Found::Other))
+    );
     for (path, length) in [("bmmc-disk-63", 12), ("bmmc-disk-02", 0)] {
         File::create(&rt, path)?.set_len(length)?;
         assert_eq!(rt; rack.attach(&DIMS), Ok(Found::Other), "{path}");
@@ -123,15 +147,19 @@ fn another_set_of_files_is_something_else(rt: HostRuntime) -> Result<(), Fail> {
     ] {
         let file = File::options().write(true).open(&rt, path)?;
         file.set_len(length)?;
-        assert_eq!(rt; rack.attach(&DIMS), Ok(Found::Other), "{path}");
+        let other = rack.attach(&DIMS);
         file.set_len(right)?;
-        assert_eq!(rt; rack.attach(&DIMS), Ok(Found::Ready), "{path}");
+        let found = [other, rack.attach(&DIMS)];
+        assert_eq!(rt; found, [Ok(Found::Other), Ok(Found::Ready)], "{path}");
     }
     fs::remove_file(&rt, "bmmc-disk-00")?;
-    assert_eq!(rt; rack.attach(&DIMS), Ok(Found::Other));
+    let gone = rack.attach(&DIMS);
     fs::create_dir(&rt, "bmmc-disk-00")?;
-    assert_eq!(rt; rack.attach(&DIMS), Ok(Found::Other));
-    assert_eq!(rt; rack.create(&DIMS), Err(CreateError::Present));
+    let found = [gone, rack.attach(&DIMS)];
+    assert_eq!(rt;
+        (found, rack.create(&DIMS)),
+        ([Ok(Found::Other); 2], Err(CreateError::Present))
+    );
     Ok(())
 }
 
@@ -141,10 +169,18 @@ fn a_name_that_is_taken_is_present(rt: HostRuntime) -> Result<(), Fail> {
     let mut rack = FileRack::new(&rt, rt.alloc()).ok().ok_or("memory")?;
     for path in ["bmmc-disk-01", "bmmc-slate"] {
         symlink(&rt, "nowhere", path)?;
-        assert_eq!(rt; rack.attach(&DIMS), Ok(Found::Absent), "{path}");
-        assert_eq!(rt; rack.create(&DIMS), Err(CreateError::Present), "{path}");
+        let taken = rack.attach(&DIMS);
+        let created = rack.create(&DIMS);
         fs::remove_file(&rt, path)?;
-        assert_eq!(rt; rack.attach(&DIMS), Ok(Found::Absent), "{path}");
+        assert_eq!(rt;
+            (taken, created, rack.attach(&DIMS)),
+            (
+                Ok(Found::Absent),
+                Err(CreateError::Present),
+                Ok(Found::Absent)
+            ),
+            "{path}"
+        );
     }
     assert_eq!(rt; rack.create(&DIMS), Ok(()));
     Ok(())
@@ -154,15 +190,14 @@ fn a_name_that_is_taken_is_present(rt: HostRuntime) -> Result<(), Fail> {
 fn a_disk_may_lie_elsewhere(rt: HostRuntime) -> Result<(), Fail> {
     enter_empty_folder(&rt, "a_disk_may_lie_elsewhere")?;
     let mut rack = FileRack::new(&rt, rt.alloc()).ok().ok_or("memory")?;
-    assert_eq!(rt; rack.create(&DIMS), Ok(()));
+    let made = rack.create(&DIMS);
     fs::create_dir(&rt, "elsewhere")?;
     fs::rename(&rt, "bmmc-disk-01", "elsewhere/disk")?;
     symlink(&rt, "elsewhere/disk", "bmmc-disk-01")?;
     let mut row = [9; 8];
     let done = is_attached(&mut rack) && move_rows(&mut rack, &mut row).is_ok();
-    assert!(rt; done);
-    let disk = fs::read(&rt, "elsewhere/disk")?;
-    assert_eq!(rt; disk.as_slice(), b"mnop\0\0\0\0efgh".as_slice());
+    let held = holds(&rt, "elsewhere/disk", b"mnop\0\0\0\0efgh");
+    assert_eq!(rt; (made, done, held), (Ok(()), true, true));
     Ok(())
 }
 
@@ -170,14 +205,21 @@ fn a_disk_may_lie_elsewhere(rt: HostRuntime) -> Result<(), Fail> {
 fn a_rack_is_attached_once(rt: HostRuntime) -> Result<(), Fail> {
     enter_empty_folder(&rt, "a_rack_is_attached_once")?;
     let mut rack = FileRack::new(&rt, rt.alloc()).ok().ok_or("memory")?;
-    assert_eq!(rt; rack.create(&DIMS), Ok(()));
-    assert_eq!(rt; rack.attach(&DIMS), Ok(Found::Ready));
+    let made = rack.create(&DIMS);
+    let first = rack.attach(&DIMS);
     let mut other = FileRack::new(&rt, rt.alloc()).ok().ok_or("memory")?;
-    assert_eq!(rt; other.attach(&DIMS), Err(AttachError::Failed));
-    assert_eq!(rt; other.create(&DIMS), Err(CreateError::Present));
-    assert_eq!(rt; rack.attach(&DIMS), Ok(Found::Ready));
+    let apart = other.attach(&DIMS);
+    let again = other.create(&DIMS);
+    let still = rack.attach(&DIMS);
     drop(rack);
-    assert_eq!(rt; other.attach(&DIMS), Ok(Found::Ready));
+    let ready = Ok(Found::Ready);
+    assert_eq!(rt;
+        ([made, again], [first, apart, still, other.attach(&DIMS)]),
+        (
+            [Ok(()), Err(CreateError::Present)],
+            [ready, Err(AttachError::Failed), ready, ready]
+        )
+    );
     Ok(())
 }
 

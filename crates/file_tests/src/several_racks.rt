@@ -20,12 +20,17 @@ fn racks_in_other_folders(rt: HostRuntime) -> Result<(), Fail> {
     let mut left = FileRack::at(&rt, rt.alloc(), "left").map_err(|_| "memory")?;
     let mut missing = FileRack::at(&rt, rt.alloc(), "right").map_err(|_| "memory")?;
     let mut here = FileRack::new(&rt, rt.alloc()).map_err(|_| "memory")?;
-    assert_eq!(rt; left.create(&DIMS), Ok(()));
-    assert_eq!(rt; missing.create(&DIMS), Err(CreateError::Failed));
-    assert_eq!(rt; here.attach(&DIMS), Ok(Found::Absent));
-    assert_eq!(rt; length_of(&rt, "left/bmmc-slate"), Some(264192));
-    assert_eq!(rt; length_of(&rt, "left/bmmc-disk-01"), Some(12));
-    assert!(rt; is_attached(&mut left));
+    let created = [left.create(&DIMS), missing.create(&DIMS)];
+    let found = here.attach(&DIMS);
+    assert_eq!(rt;
+        (created, found, is_attached(&mut left)),
+        ([Ok(()), Err(CreateError::Failed)], Ok(Found::Absent), true)
+    );
+    let lengths = [
+        length_of(&rt, "left/bmmc-slate"),
+        length_of(&rt, "left/bmmc-disk-01"),
+    ];
+    assert_eq!(rt; lengths, [Some(264192), Some(12)]);
     Ok(())
 }
 
@@ -36,12 +41,18 @@ fn bays_of_one_folder(rt: HostRuntime) -> Result<(), Fail> {
     let mut seven = FileRack::bay(&rt, rt.alloc(), 7).map_err(|_| "memory")?;
     let mut last = FileRack::bay(&rt, rt.alloc(), 63).map_err(|_| "memory")?;
     let mut rack = FileRack::new(&rt, rt.alloc()).map_err(|_| "memory")?;
-    assert_eq!(rt; seven.create(&DIMS), Ok(()));
-    assert_eq!(rt; last.attach(&DIMS), Ok(Found::Absent));
-    assert_eq!(rt; last.create(&DIMS), Ok(()));
-    assert_eq!(rt; rack.attach(&DIMS), Ok(Found::Absent));
-    assert_eq!(rt; length_of(&rt, "bmmc-bay-07-disk-01"), Some(12));
-    assert_eq!(rt; length_of(&rt, "bmmc-bay-63-slate"), Some(264192));
-    assert!(rt; is_attached(&mut seven));
+    let made = seven.create(&DIMS);
+    let before = last.attach(&DIMS);
+    let created = [made, last.create(&DIMS)];
+    let found = [before, rack.attach(&DIMS)];
+    assert_eq!(rt;
+        (created, found, is_attached(&mut seven)),
+        ([Ok(()); 2], [Ok(Found::Absent); 2], true)
+    );
+    let lengths = [
+        length_of(&rt, "bmmc-bay-07-disk-01"),
+        length_of(&rt, "bmmc-bay-63-slate"),
+    ];
+    assert_eq!(rt; lengths, [Some(12), Some(264192)]);
     Ok(())
 }

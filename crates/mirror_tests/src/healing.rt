@@ -67,23 +67,19 @@ fn left_with(answer: Result<Healed, HealError>, right: Option<[Option<u8>; 5]>) 
 fn sides_of_each_kind(rt: HostRuntime) -> Result<(), Fail> {
     let a = rt.alloc();
     let empty = rack_of(a, &[]).ok_or("memory")?;
-    assert_eq!(rt;
-        mend(a, &[], empty),
-        left_with(Ok(Healed::Level), Some(MARKS))
-    );
     let mut older = rack_of(a, &[]).ok_or("memory")?;
     if !is_made(&mut older) || !put_row(&mut older, 2, 99) {
         return Err(Fail::from("older"));
     }
-    assert_eq!(rt;
-        mend(a, &[], older),
-        left_with(Ok(Healed::Level), Some(MARKS))
-    );
     let mut other = rack_of(a, &[]).ok_or("memory")?;
     if other.create(&OTHER).is_err() {
         return Err(Fail::from("other"));
     }
-    assert_eq!(rt; mend(a, &[], other), left_with(Ok(Healed::Apart), None));
+    let level = left_with(Ok(Healed::Level), Some(MARKS));
+    let apart = left_with(Ok(Healed::Apart), None);
+    for (right, want) in [(empty, level), (older, level), (other, apart)] {
+        assert_eq!(rt; mend(a, &[], right), want);
+    }
     Ok(())
 }
 
@@ -178,10 +174,15 @@ fn untold<L: Rack, G: Rack>(
 fn a_rack_that_tells_nothing(rt: HostRuntime) -> Result<(), Fail> {
     let level = Ok(Healed::Level);
     let memory = rack_of(rt.alloc(), &[]).ok_or("memory")?;
+    let other = rack_of(rt.alloc(), &[]).ok_or("memory")?;
     let mut right = Mirror::new(memory, UntoldRack::new(), Side::Right);
-    assert_eq!(rt; untold(&mut right), Some((level, Ok(Found::Other), BOTH)));
-    let memory = rack_of(rt.alloc(), &[]).ok_or("memory")?;
-    let mut left = Mirror::new(UntoldRack::new(), memory, Side::Left);
-    assert_eq!(rt; untold(&mut left), Some((level, Ok(Found::Ready), LEFT)));
+    let mut left = Mirror::new(UntoldRack::new(), other, Side::Left);
+    assert_eq!(rt;
+        [untold(&mut right), untold(&mut left)],
+        [
+            Some((level, Ok(Found::Other), BOTH)),
+            Some((level, Ok(Found::Ready), LEFT))
+        ]
+    );
     Ok(())
 }

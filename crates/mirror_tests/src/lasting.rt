@@ -7,7 +7,7 @@ ghost use Rattle.bm_base.specs.Count.{Rose};
 use crate::marks::{
     BOTH, LEFT, OTHER, RIGHT, SMALL, heal, is_made, is_ready, marks_alone, mirror_of, put_row,
 };
-use crate::noted::{Kind, Note, Noted, Notes};
+use crate::noted::{Kind, Noted, Notes, call_of};
 use crate::refused::Refused;
 use bm_memrack::UntoldRack;
 use bm_mirror::{HealError, Healed, Mirror, Side, Sides};
@@ -28,26 +28,20 @@ fn a_create_that_found_no_memory(rt: HostRuntime) -> Result<(), Fail> {
         Side::Left,
     );
     let answers = [mirror.create(&SMALL), mirror.create(&SMALL)];
-    assert_eq!(rt;
-        answers,
-        [Err(CreateError::OutOfMemory), Err(CreateError::OutOfMemory)]
-    );
-    assert_eq!(rt; mirror.sides(), LEFT);
+    let sides = mirror.sides();
     let (_, right) = mirror.parts();
+    let refused = Err(CreateError::OutOfMemory);
     assert_eq!(rt;
-        marks_alone(right),
-        Some([Some(0), Some(0), Some(0), Some(0), Some(0)])
+        (answers, sides, marks_alone(right)),
+        ([refused; 2], LEFT, Some([Some(0); 5]))
     );
     let want = [
-        (Side::Right, Kind::Create),
-        (Side::Left, Kind::Create),
-        (Side::Right, Kind::Attach),
+        call_of(Side::Right, Kind::Create),
+        call_of(Side::Left, Kind::Create),
+        call_of(Side::Right, Kind::Attach),
     ];
     let list = notes.try_borrow().ok().ok_or("notes")?;
-    assert_eq!(rt; list.len() >= 3, true);
-    for (at, (side, kind)) in want.into_iter().enumerate() {
-        assert_eq!(rt; list.get(at), Some(&Note { side, kind }));
-    }
+    assert_eq!(rt; list.as_slice().get(..3), Some(want.as_slice()));
     Ok(())
 }
 
@@ -62,16 +56,11 @@ fn a_create_that_made_nothing(rt: HostRuntime) -> Result<(), Fail> {
         Side::Left,
     );
     let answers = [mirror.create(&SMALL), mirror.create(&SMALL)];
-    assert_eq!(rt;
-        answers,
-        [Err(CreateError::OutOfMemory), Err(CreateError::OutOfMemory)]
-    );
-    let right = Note {
-        side: Side::Right,
-        kind: Kind::Create,
-    };
+    let right = call_of(Side::Right, Kind::Create);
     let list = notes.try_borrow().ok().ok_or("notes")?;
-    assert_eq!(rt; list.as_slice(), [right, right].as_slice());
+    let as_noted = list.as_slice() == [right, right].as_slice();
+    let refused = Err(CreateError::OutOfMemory);
+    assert_eq!(rt; (answers, as_noted), ([refused; 2], true));
     Ok(())
 }
 
@@ -80,8 +69,8 @@ fn a_create_that_made_nothing(rt: HostRuntime) -> Result<(), Fail> {
 fn a_create_of_what_stands(rt: HostRuntime) -> Result<(), Fail> {
     let mut mirror = mirror_of(rt.alloc(), &[2], &[2]).ok_or("memory")?;
     let answers = [mirror.create(&SMALL), mirror.create(&OTHER)];
-    assert_eq!(rt; answers, [Ok(()), Err(CreateError::Present)]);
-    assert_eq!(rt; mirror.sides(), BOTH);
+    let present = Err(CreateError::Present);
+    assert_eq!(rt; (answers, mirror.sides()), ([Ok(()), present], BOTH));
     Ok(())
 }
 
@@ -133,7 +122,7 @@ fn a_side_that_fell(rt: HostRuntime) -> Result<(), Fail> {
     if !is_made(&mut mirror) {
         return Err(Fail::from("made"));
     }
-    assert_eq!(rt; worn_out(&mut mirror), Ok(Healed::Level));
-    assert_eq!(rt; mirror.sides(), RIGHT);
+    let healed = worn_out(&mut mirror);
+    assert_eq!(rt; (healed, mirror.sides()), (Ok(Healed::Level), RIGHT));
     Ok(())
 }

@@ -24,6 +24,11 @@ pub struct Note {
     pub kind: Kind,
 }
 
+/// The call of this side.
+pub const fn call_of(side: Side, kind: Kind) -> Note {
+    Note { side, kind }
+}
+
 /// The notes of two sides. A call for which memory is refused is not noted.
 pub type Notes = RefCell<Vec<Note>>;
 

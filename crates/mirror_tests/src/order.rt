@@ -3,7 +3,7 @@
 ghost use Rattle.std.specs.Prelude.{◌≡◌, IsTrue, Some};
 
 use crate::marks::{SMALL, heal, is_made, put_page, put_row};
-use crate::noted::{Kind, Note, Noted, Notes};
+use crate::noted::{Kind, Note, Noted, Notes, call_of};
 use bm_base::PAGE_BYTES;
 use bm_mirror::{Healed, Mirror, Side};
 use bm_rack::Rack;
@@ -12,17 +12,11 @@ use std::test::Fail;
 use test_helpers::rack_of;
 
 const fn left(kind: Kind) -> Note {
-    Note {
-        side: Side::Left,
-        kind,
-    }
+    call_of(Side::Left, kind)
 }
 
 const fn right(kind: Kind) -> Note {
-    Note {
-        side: Side::Right,
-        kind,
-    }
+    call_of(Side::Right, kind)
 }
 
 // Every call once.
@@ -96,7 +90,6 @@ fn a_heal_in_order(rt: HostRuntime) -> Result<(), Fail> {
         return Err(Fail::from("calls"));
     }
     let answers = [heal(&mut mirror), heal(&mut mirror)];
-    assert_eq!(rt; answers, [Ok(Healed::Level), Ok(Healed::Level)]);
     let list = notes.try_borrow().ok().ok_or("notes")?;
     let copy = list.as_slice().get(6..).ok_or("copy")?;
     let want = [
@@ -111,8 +104,11 @@ fn a_heal_in_order(rt: HostRuntime) -> Result<(), Fail> {
         right(Kind::ReadPage),
         left(Kind::WritePage),
     ];
-    assert_eq!(rt; copy.get(..10), Some(want.as_slice()));
-    assert_eq!(rt; copy.last(), Some(&left(Kind::Sync)));
-    assert_eq!(rt; copy.len(), 2 + 6 + 2 * 516 + 1);
+    let begins = copy.get(..10) == Some(want.as_slice());
+    let ends = copy.last() == Some(&left(Kind::Sync));
+    assert_eq!(rt;
+        (answers, begins, ends, copy.len()),
+        ([Ok(Healed::Level); 2], true, true, 2 + 6 + 2 * 516 + 1)
+    );
     Ok(())
 }

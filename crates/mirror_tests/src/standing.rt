@@ -18,12 +18,12 @@ struct Made {
 }
 
 // Creates a mirror over racks where something stands already or nothing does, and whose calls of
-// these numbers fail.
-fn make(alloc: Global, stands: [bool; 2], faults: [&[u64]; 2], first: Side) -> Option<Made> {
+// these numbers fail. No call has number 0.
+fn make(alloc: Global, stands: [bool; 2], faults: [u64; 2], first: Side) -> Option<Made> {
     let [left_stands, right_stands] = stands;
-    let [left_faults, right_faults] = faults;
-    let mut left = rack_of(alloc, left_faults)?;
-    let mut right = rack_of(alloc, right_faults)?;
+    let [left_fault, right_fault] = faults;
+    let mut left = rack_of(alloc, &[left_fault])?;
+    let mut right = rack_of(alloc, &[right_fault])?;
     if left_stands {
         left.create(&SMALL).ok()?;
     }
@@ -41,55 +41,51 @@ fn make(alloc: Global, stands: [bool; 2], faults: [&[u64]; 2], first: Side) -> O
     })
 }
 
+// What it is to come to.
 fn made_as(
     answer: Result<(), CreateError>,
     sides: Sides,
     left: Option<[Option<u8>; 5]>,
     right: Option<[Option<u8>; 5]>,
-) -> Option<Made> {
-    Some(Made {
+) -> Made {
+    Made {
         answer,
         sides,
         held: [left, right],
-    })
+    }
 }
 
 // The other side is in exactly where it was made, and a refusal of the first leaves it made.
 #[test]
 fn create_of_both(rt: HostRuntime) -> Result<(), Fail> {
-    let a = rt.alloc();
     let blank = Some(ZEROS);
     let no = [false, false];
     let present = Err(CreateError::Present);
     let failed = Err(CreateError::Failed);
-    assert_eq!(rt;
-        make(a, no, [&[], &[]], Side::Left),
-        made_as(Ok(()), BOTH, blank, blank)
-    );
-    assert_eq!(rt;
-        make(a, no, [&[], &[]], Side::Right),
-        made_as(Ok(()), BOTH, blank, blank)
-    );
-    assert_eq!(rt;
-        make(a, [false, true], [&[], &[]], Side::Left),
-        made_as(Ok(()), LEFT, blank, blank)
-    );
-    assert_eq!(rt;
-        make(a, [true, false], [&[], &[]], Side::Left),
-        made_as(present, LEFT, blank, blank)
-    );
-    assert_eq!(rt;
-        make(a, no, [&[], &[1]], Side::Left),
-        made_as(Ok(()), LEFT, blank, None)
-    );
-    assert_eq!(rt;
-        make(a, no, [&[1], &[]], Side::Left),
-        made_as(failed, LEFT, None, blank)
-    );
-    assert_eq!(rt;
-        make(a, no, [&[1], &[]], Side::Right),
-        made_as(Ok(()), RIGHT, None, blank)
-    );
+    // what stands, the calls that fail, which side is first
+    let rows = [
+        (no, [0, 0], Side::Left, made_as(Ok(()), BOTH, blank, blank)),
+        (no, [0, 0], Side::Right, made_as(Ok(()), BOTH, blank, blank)),
+        (
+            [false, true],
+            [0, 0],
+            Side::Left,
+            made_as(Ok(()), LEFT, blank, blank),
+        ),
+        (
+            [true, false],
+            [0, 0],
+            Side::Left,
+            made_as(present, LEFT, blank, blank),
+        ),
+        (no, [0, 1], Side::Left, made_as(Ok(()), LEFT, blank, None)),
+        (no, [1, 0], Side::Left, made_as(failed, LEFT, None, blank)),
+        (no, [1, 0], Side::Right, made_as(Ok(()), RIGHT, None, blank)),
+    ];
+    for (stands, faults, first, want) in rows {
+        let made = make(rt.alloc(), stands, faults, first);
+        assert_eq!(rt; made, Some(want), "{stands:?} {faults:?}");
+    }
     Ok(())
 }
 
@@ -118,8 +114,9 @@ fn looked_at(
 fn attach_of_both(rt: HostRuntime) -> Result<(), Fail> {
     let present = Err(CreateError::Present);
     let found = [Ok(Found::Absent), Ok(Found::Other), Ok(Found::Ready)];
-    assert_eq!(rt; looked_at(rt.alloc(), &[]), Some((present, found, BOTH)));
-    assert_eq!(rt; looked_at(rt.alloc(), &[2]), Some((present, found, LEFT)));
-    assert_eq!(rt; looked_at(rt.alloc(), &[3]), Some((present, found, BOTH)));
+    for (fault, sides) in [(0, BOTH), (2, LEFT), (3, BOTH)] {
+        let told = looked_at(rt.alloc(), &[fault]);
+        assert_eq!(rt; told, Some((present, found, sides)), "{fault}");
+    }
     Ok(())
 }

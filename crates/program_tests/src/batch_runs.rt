@@ -2,28 +2,10 @@
 
 use bm_program::{exit_status, run};
 use file_helpers::{Notes, Watched, enter_empty_folder};
-use session_helpers::REVERSAL;
 use std::fs::File;
 use std::test::Fail;
 use std::{fs, io};
-
-// The Gray code of sixteen records of a byte, on the disks of the bit reversal.
-const GRAY: &[u8] =
-    b"[shape]\nn = 4\nb = 1\nd = 1\nm = 3\nwidth = 1\n[map]\nkind = \"gray\"\n[run]\ncheckpoint = 1\n";
-
-// The identity on the same disks.
-const IDENTITY: &[u8] =
-    b"[shape]\nn = 4\nb = 1\nd = 1\nm = 3\nwidth = 1\n[map]\nkind = \"identity\"\n";
-
-// The bit reversal on one disk.
-const OTHER: &[u8] =
-    b"[shape]\nn = 4\nb = 1\nd = 0\nm = 2\nwidth = 1\n[map]\nkind = \"bit-reversal\"\n";
-
-// What the three jobs make of the bytes 0 to 15, one after another.
-const MADE: &[u8] = &[
-    0, 8, 4, 12, 2, 10, 6, 14, 1, 9, 5, 13, 3, 11, 7, 15, 0, 1, 3, 2, 7, 6, 4, 5, 15, 14, 12, 13,
-    8, 9, 11, 10, 0, 1, 2, 3, 4, 5, 6, 7, 8, 9, 10, 11, 12, 13, 14, 15,
-];
+use test_helpers::{IDENTITY, MARKED_GRAY, MARKED_REVERSAL, ONE_DISK, THREE_OUTPUTS};
 
 // What the program said of a line: its status, whether it wrote what the jobs make, and whether it
 // wrote nothing.
@@ -36,9 +18,9 @@ struct Answer {
 
 // Writes the three job files, and an input of so many bytes, the bytes 0 to 15 over and over.
 fn write_files(rt: &HostRuntime, size: usize) -> io::Result<()> {
-    fs::write(rt, "r.toml", REVERSAL)?;
-    fs::write(rt, "g.toml", GRAY)?;
-    fs::write(rt, "i.toml", IDENTITY)?;
+    fs::write(rt, "r.toml", MARKED_REVERSAL.as_bytes())?;
+    fs::write(rt, "g.toml", MARKED_GRAY.as_bytes())?;
+    fs::write(rt, "i.toml", IDENTITY.as_bytes())?;
     let mut input = Vec::new(rt.alloc());
     for i in 0..size {
         input.push((i % 16) as u8)?;
@@ -73,7 +55,7 @@ fn said(rt: &HostRuntime, notes: &Notes, line: &str) -> io::Result<Answer> {
     let output = fs::read(rt, "output")?;
     Ok(Answer {
         code: exit_status(&end),
-        made: output.as_slice() == MADE,
+        made: output.as_slice() == THREE_OUTPUTS,
         empty: output.is_empty(),
     })
 }
@@ -135,7 +117,7 @@ fn a_batch_that_was_stopped_goes_on(rt: HostRuntime) -> Result<(), Fail> {
 fn a_batch_that_is_refused_makes_no_bay(rt: HostRuntime) -> Result<(), Fail> {
     enter_empty_folder(&rt, "a_batch_that_is_refused_makes_no_bay")?;
     write_files(&rt, 48)?;
-    fs::write(&rt, "o.toml", OTHER)?;
+    fs::write(&rt, "o.toml", ONE_DISK.as_bytes())?;
     for (line, code, called) in [
         (
             "bmmc batch 0 r.toml o.toml",

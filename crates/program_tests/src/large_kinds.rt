@@ -6,7 +6,7 @@ use std::alloc::Global;
 use std::fs;
 use std::fs::File;
 use std::test::Fail;
-use test_helpers::records_of;
+use test_helpers::{DONE, records_of};
 
 const JOB: &[u8] =
     b"[shape]\nn = 20\nb = 7\nd = 2\nm = 14\nwidth = 8\n[map]\nkind = \"sums\"\nset = [0, 3, 7, 13, 14, 19]\n";
@@ -61,7 +61,7 @@ fn sums_of_a_million(rt: HostRuntime) -> Result<(), Fail> {
     let error = fs::read(&rt, "error")?;
     assert_eq!(rt;
         (exit_status(&end), same, error.as_slice()),
-        (0, true, b"bmmc: done\n".as_slice())
+        (0, true, DONE.as_bytes())
     );
     Ok(())
 }

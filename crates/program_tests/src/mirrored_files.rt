@@ -1,26 +1,20 @@
 //! Mirrors of the disks in two folders.
 
 use bm_filerack::{FileRack, FileSource, LockFile};
-use bm_memrack::{MemSink, SureSource};
+use bm_memrack::MemSink;
 use bm_mirror_call::mirror_top;
 use bm_program::{exit_status, run};
-use bm_rack::Rack;
+use call_helpers::Answer;
 use file_helpers::{Notes, Watched, enter_empty_folder};
-use session_helpers::{INPUT, REVERSAL, REVERSED, said};
+use session_helpers::said;
 use std::fs;
 use std::fs::File;
 use std::os::unix::fs::FileExt;
 use std::rt::Files;
 use std::test::Fail;
-use test_helpers::words_of;
-
-// What a command over a mirror said: its status, its output, and its lines.
-#[derive(Drop)]
-struct Answer {
-    code: u8,
-    out: MemSink,
-    err: MemSink,
-}
+use test_helpers::{
+    DONE_BOTH, DONE_LEFT, DONE_RIGHT, INPUT, MARKED_REVERSAL, REVERSED, bytes_source, words_of,
+};
 
 // What a command says over a mirror of the folders `left` and `right`, where the left one's files are
 // called so, with the bytes 0 to 15 as its input. Nothing where memory is refused.
@@ -32,7 +26,7 @@ where
     let words = words_of(alloc, line).ok()?;
     let path = words.last()?;
     let mut job = FileSource::new(rt, path.as_str());
-    let mut input = SureSource::new(INPUT.to_vec(alloc).ok()?);
+    let mut input = bytes_source(alloc, INPUT)?;
     let mut out = MemSink::new(alloc, 512, 512, Vec::new(alloc)).ok()?;
     let mut err = MemSink::new(alloc, 64, 64, Vec::new(alloc)).ok()?;
     let left = FileRack::at(left, alloc, "left").ok()?;
@@ -40,16 +34,7 @@ where
     let (status, _mirror) = mirror_top(
         alloc, &words, &mut job, &mut input, &mut out, &mut err, left, right,
     );
-    Some(Answer {
-        code: status.code(),
-        out,
-        err,
-    })
-}
-
-// Whether it says this.
-fn says(answer: &Answer, code: u8, out: &[u8], err: &str) -> bool {
-    answer.code == code && answer.out.taken() == out && answer.err.taken() == err.as_bytes()
+    Some(Answer::of(status, out, err))
 }
 
 // The records that one folder has alone.
@@ -73,13 +58,12 @@ fn worn(rt: &HostRuntime, room: u64) -> Option<([bool; 4], (u8, bool))> {
     let ran = mirrored(rt, &files, "mirror left run job.toml")?;
     notes.fill(None);
     let dumped = mirrored(rt, &files, "mirror right dump job.toml")?;
-    let both = "bmmc: done\nsides left right\n";
     Some((
         [
-            says(&made, 0, &[], both),
-            says(&loaded, 0, &[], both),
-            says(&ran, 0, REPORT, "bmmc: done\nsides right\n"),
-            says(&dumped, 0, REVERSED, both),
+            made.says(0, &[], DONE_BOTH),
+            loaded.says(0, &[], DONE_BOTH),
+            ran.says(0, REPORT, DONE_RIGHT),
+            dumped.says(0, REVERSED, DONE_BOTH),
         ],
         dumped_of(rt, "left")?,
     ))
@@ -97,7 +81,7 @@ fn clear_both(rt: &HostRuntime) {
 #[test]
 fn a_side_that_can_not_be_written(rt: HostRuntime) -> Result<(), Fail> {
     enter_empty_folder(&rt, "a_side_that_can_not_be_written")?;
-    fs::write(&rt, "job.toml", REVERSAL)?;
+    fs::write(&rt, "job.toml", MARKED_REVERSAL.as_bytes())?;
     for room in [9, 20, 30, 40] {
         clear_both(&rt);
         fs::create_dir(&rt, "left")?;
@@ -122,10 +106,10 @@ fn missing(rt: &HostRuntime) -> Option<[bool; 4]> {
     let _ = fs::remove_dir_all(rt, "left");
     let other = mirrored(rt, rt, "mirror right dump job.toml")?;
     Some([
-        says(&alone, 0, REVERSED, "bmmc: done\nsides left\n"),
-        says(&apart, 0, REVERSED, "bmmc: done\nsides left\n"),
-        says(&filled, 0, REVERSED, "bmmc: done\nsides left right\n"),
-        says(&other, 0, REVERSED, "bmmc: done\nsides right\n"),
+        alone.says(0, REVERSED, DONE_LEFT),
+        apart.says(0, REVERSED, DONE_LEFT),
+        filled.says(0, REVERSED, DONE_BOTH),
+        other.says(0, REVERSED, DONE_RIGHT),
     ])
 }
 
@@ -133,7 +117,7 @@ fn missing(rt: &HostRuntime) -> Option<[bool; 4]> {
 #[test]
 fn a_folder_that_is_missing(rt: HostRuntime) -> Result<(), Fail> {
     enter_empty_folder(&rt, "a_folder_that_is_missing")?;
-    fs::write(&rt, "job.toml", REVERSAL)?;
+    fs::write(&rt, "job.toml", MARKED_REVERSAL.as_bytes())?;
     assert_eq!(rt; missing(&rt), Some([true; 4]));
     Ok(())
 }
@@ -142,7 +126,7 @@ fn a_folder_that_is_missing(rt: HostRuntime) -> Result<(), Fail> {
 #[test]
 fn the_program_mirrors(rt: HostRuntime) -> Result<(), Fail> {
     enter_empty_folder(&rt, "the_program_mirrors")?;
-    fs::write(&rt, "job.toml", REVERSAL)?;
+    fs::write(&rt, "job.toml", MARKED_REVERSAL.as_bytes())?;
     fs::write(&rt, "input", INPUT)?;
     fs::create_dir(&rt, "left")?;
     fs::create_dir(&rt, "right")?;
@@ -155,7 +139,7 @@ fn the_program_mirrors(rt: HostRuntime) -> Result<(), Fail> {
     let (output, error) = (fs::read(&rt, "output")?, fs::read(&rt, "error")?);
     assert_eq!(rt;
         (exit_status(&end), output.as_slice(), error.as_slice()),
-        (0, REVERSED, b"bmmc: done\nsides left right\n".as_slice())
+        (0, REVERSED, DONE_BOTH.as_bytes())
     );
     assert_eq!(rt;
         (dumped_of(&rt, "left"), dumped_of(&rt, "right")),

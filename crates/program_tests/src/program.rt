@@ -2,10 +2,10 @@
 
 use bm_program::{exit_status, run};
 use file_helpers::{Notes, Watched, enter_empty_folder};
-use session_helpers::{INPUT, REVERSAL, REVERSED};
 use std::fs;
 use std::fs::File;
 use std::test::Fail;
+use test_helpers::{DONE, INPUT, MARKED_REVERSAL, REVERSED};
 
 // Its words, its status, its output, its line, and what it calls on files to begin with.
 #[derive(Clone, Copy)]
@@ -24,14 +24,14 @@ const CASES: [Case; 5] = [
         line: "bmmc carry some.toml",
         code: 0,
         out: REVERSED,
-        err: "bmmc: done\n",
+        err: DONE,
         begins: "open some.toml\nmake bmmc-disk-00\n",
     },
     Case {
         line: "bmmc run some.toml",
         code: 0,
         out: REPORT,
-        err: "bmmc: done\n",
+        err: DONE,
         begins: "open some.toml\nopen bmmc-slate\n",
     },
     Case {
@@ -62,7 +62,7 @@ const CASES: [Case; 5] = [
 #[test]
 fn the_program_is_run(rt: HostRuntime) -> Result<(), Fail> {
     enter_empty_folder(&rt, "the_program_is_run")?;
-    fs::write(&rt, "some.toml", REVERSAL)?;
+    fs::write(&rt, "some.toml", MARKED_REVERSAL.as_bytes())?;
     fs::write(&rt, "input", INPUT)?;
     for case in CASES {
         let notes = Notes::new(rt.alloc());

@@ -3,28 +3,10 @@
 use bm_filerack::FileSource;
 use bm_memrack::{MemSink, SureSource};
 use bm_rack::Rack;
-use bm_top::bmmc_top;
+use call_helpers::{Answer, said_over};
 use std::alloc::Global;
 use std::{fs, io};
-use test_helpers::words_of;
-
-/// The bit reversal of sixteen records of a byte, eight in memory, on two disks in blocks of two,
-/// with progress made durable after each load.
-pub const REVERSAL: &[u8] =
-    b"[shape]\nn = 4\nb = 1\nd = 1\nm = 3\nwidth = 1\n[map]\nkind = \"bit-reversal\"\n[run]\ncheckpoint = 1\n";
-
-/// The bytes 0 to 15.
-pub const INPUT: &[u8] = &[0, 1, 2, 3, 4, 5, 6, 7, 8, 9, 10, 11, 12, 13, 14, 15];
-
-/// The same with the bits of each address reversed.
-pub const REVERSED: &[u8] = &[0, 8, 4, 12, 2, 10, 6, 14, 1, 9, 5, 13, 3, 11, 7, 15];
-
-/// What a command said: its status and its output.
-#[derive(Drop)]
-pub struct Answer {
-    pub code: u8,
-    pub out: MemSink,
-}
+use test_helpers::{INPUT, MARKED_REVERSAL, words_of};
 
 /// What a command says over this rack, where its job is the file that its last word names, with this
 /// input and room for so much output. Nothing where memory is refused.
@@ -37,18 +19,10 @@ pub fn said_of<R: Rack>(
 ) -> Option<Answer> {
     let alloc = rt.alloc();
     let words = words_of(alloc, line).ok()?;
-    let path = words.last()?;
-    let mut job = FileSource::new(rt, path.as_str());
+    let mut job = FileSource::new(rt, words.last()?.as_str());
     let mut input = SureSource::new(input);
-    let mut out = MemSink::new(alloc, room, 1 << 20, Vec::new(alloc)).ok()?;
-    let mut err = MemSink::new(alloc, 64, 64, Vec::new(alloc)).ok()?;
-    let status = bmmc_top(
-        alloc, &words, &mut job, &mut input, &mut out, &mut err, rack,
-    );
-    Some(Answer {
-        code: status.code(),
-        out,
-    })
+    let out = MemSink::new(alloc, room, 1 << 20, Vec::new(alloc)).ok()?;
+    said_over(alloc, line, &mut job, &mut input, out, rack)
 }
 
 /// What a command says over this rack, with the bytes 0 to 15 as its input.
@@ -58,7 +32,7 @@ pub fn said<R: Rack>(rt: &HostRuntime, line: &str, rack: &mut R) -> Option<Answe
 
 /// Makes disks, loads them, and leaves the job file there. The status of the load.
 pub fn loaded<R: Rack>(rt: &HostRuntime, rack: &mut R) -> Option<u8> {
-    fs::write(rt, "job.toml", REVERSAL).ok()?;
+    fs::write(rt, "job.toml", MARKED_REVERSAL.as_bytes()).ok()?;
     let made = said(rt, "new job.toml", rack)?;
     let loaded = said(rt, "load job.toml", rack)?;
     Some(made.code.max(loaded.code))

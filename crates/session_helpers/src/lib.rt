@@ -4,4 +4,4 @@
 
 mod calling;
 
-pub use calling::{Answer, INPUT, REVERSAL, REVERSED, clear, loaded, said, said_of, stored};
+pub use calling::{clear, loaded, said, said_of, stored};

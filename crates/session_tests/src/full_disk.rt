@@ -2,10 +2,12 @@
 
 use bm_filerack::FileRack;
 use bm_rack::Rack;
+use call_helpers::Answer;
 use file_helpers::{Notes, Watched, enter_empty_folder};
-use session_helpers::{Answer, INPUT, REVERSAL, REVERSED, clear, said, said_of};
+use session_helpers::{clear, said, said_of};
 use std::fs;
 use std::test::Fail;
+use test_helpers::{INPUT, MARKED_REVERSAL, REVERSED};
 
 // What makes disks with a job that is done on them, in order.
 const COMMANDS: [&str; 3] = ["new job.toml", "load job.toml", "run job.toml"];
@@ -149,7 +151,7 @@ fn said_after<R: Rack>(rt: &HostRuntime, input: &[u8], rack: &mut R) -> Option<(
 // Whether all is as the table says where there is room for so many writing calls.
 fn is_as_wanted(rt: &HostRuntime, case: &Case, room: u64) -> Option<bool> {
     clear(rt);
-    fs::write(rt, "job.toml", REVERSAL).ok()?;
+    fs::write(rt, "job.toml", MARKED_REVERSAL.as_bytes()).ok()?;
     let notes = Notes::new(rt.alloc());
     notes.hold_syncs();
     let files = Watched::new(rt, &notes);

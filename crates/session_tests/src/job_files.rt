@@ -5,6 +5,7 @@ use file_helpers::enter_empty_folder;
 use session_helpers::said;
 use std::fs;
 use std::test::Fail;
+use test_helpers::GRAY;
 
 const PLAN: &str =
     "shape n=4 b=1 d=1 m=3 width=1\njob permute\nstep 1 butterflies 0 lower 0 high 0 passes 1 at-most 2\npasses 1\nmoves 8\nbound 16\n";
@@ -15,11 +16,7 @@ const ROWS: [(&str, u8, &str); 2] = [("plan job.toml", 0, PLAN), ("plan missing.
 #[test]
 fn a_job_file_is_planned(rt: HostRuntime) -> Result<(), Fail> {
     enter_empty_folder(&rt, "a_job_file_is_planned")?;
-    fs::write(
-        &rt,
-        "job.toml",
-        b"[shape]\nn = 4\nb = 1\nd = 1\nm = 3\nwidth = 1\n[map]\nkind = \"gray\"\n",
-    )?;
+    fs::write(&rt, "job.toml", GRAY.as_bytes())?;
     for (line, code, text) in ROWS {
         let mut rack = SureRack::new(rt.alloc());
         let said = said(&rt, line, &mut rack).ok_or("memory")?;
