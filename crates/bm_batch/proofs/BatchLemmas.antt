@@ -15,7 +15,7 @@ use Rattle.bm_job.specs.declared.machine.Machine.{Machine}
 use Rattle.bm_job.proofs.RunLemmas.{same_input_none, same_input_then}
 use Rattle.bm_batch.specs.declared.bay_slot.BaySlot.{BaySlot}
 use Rattle.bm_batch.specs.declared.bay_state.BayState.TheVariants.{Going}
-use Rattle.bm_batch.specs.Bays.{IsOfShape, BayTurns, BayStep}
+use Rattle.bm_batch.specs.Bays.{IsBayOfShape, BayTurns, BayStep}
 use Rattle.bm_batch.specs.Batches.{BatchValue, view_at, AreAttached, BatchFollows, IsNoneGoing, BatchTurns, AreStillSound, AreDone}
 use Rattle.bm_batch.specs.Batches.{AreComplete}
 use Rattle.bm_batch.proofs.BayLemmas.{turns_none, turns_then, was_going, follows_after, attached_after, input_after, sound_after}
@@ -63,7 +63,7 @@ own_after view at bays after below =
 -- what a turn of one bay did with every bay
 pub batch_turned : {A : Type 0} (view : A → RackView) (ts tc : Bool) (s : Shape) (at : ℕ) (slots : List BaySlot) (bays : List A)
     (slot next : BaySlot) (rack after : A) → ((y : A) → IsWellFormed ts tc (view y)) → at < length slots → length bays ≡ length slots
-    → slot ≡ slice_index_or slots at slot → All (IsOfShape s) slots
+    → slot ≡ slice_index_or slots at slot → All (IsBayOfShape s) slots
     → BayTurns ts tc slot next (view (slice_index_or bays at rack)) (view after)
     → BatchTurns ts tc (record { shape = s; slots = slots }) (record { shape = s; slots = slice_set slots at next })
     (map view bays) (map view (slice_set bays at after))
@@ -73,7 +73,7 @@ batch_turned {A} view ts tc s at slots bays slot next rack after well below many
   bays = each;
   input = λ k here. input_after ts tc s (slice_index_or slots k slot) (slice_index_or (slice_set slots at next) k slot)
       (view_at (map view bays) k) (view_at (map view (slice_set bays at after)) k)
-      (All-get_or (IsOfShape s) slots k slot here of_shape) (each k slot here);
+      (All-get_or (IsBayOfShape s) slots k slot here of_shape) (each k slot here);
 }
   where
     Turned : ℕ → BaySlot → Type 0
@@ -113,13 +113,13 @@ batch_step view ts tc at slots bays m next d rack after below many step =
 -- ---- the conditions of the turn
 
 -- its slot is of the shape
-pub own_shape : (s : Shape) (slots : List BaySlot) (at : ℕ) (slot : BaySlot) → All (IsOfShape s) slots → at < length slots
-    → slot ≡ slice_index_or slots at slot → IsOfShape s slot
-own_shape s slots at slot all below slot_is = subst (IsOfShape s) (sym slot_is) (All-get_or (IsOfShape s) slots at slot below all)
+pub own_shape : (s : Shape) (slots : List BaySlot) (at : ℕ) (slot : BaySlot) → All (IsBayOfShape s) slots → at < length slots
+    → slot ≡ slice_index_or slots at slot → IsBayOfShape s slot
+own_shape s slots at slot all below slot_is = subst (IsBayOfShape s) (sym slot_is) (All-get_or (IsBayOfShape s) slots at slot below all)
 
 -- its rack is attached
 pub own_attached : {A : Type 0} (view : A → RackView) (s : Shape) (slots : List BaySlot) (bays : List A) (at : ℕ) (slot : BaySlot)
-    (rack : A) (m : Machine) → All (IsOfShape s) slots → at < length slots → length bays ≡ length slots
+    (rack : A) (m : Machine) → All (IsBayOfShape s) slots → at < length slots → length bays ≡ length slots
     → slot ≡ slice_index_or slots at slot → AreAttached (record { shape = s; slots = slots }) (map view bays) → slot.state ≡ Going
     → slot.machine ≡ Some m → (view (slice_index_or bays at rack)).attached ≡ Some (dims_of m.shape)
 own_attached view s slots bays at slot rack m all below many slot_is attached going machine =

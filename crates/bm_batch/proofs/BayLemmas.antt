@@ -32,7 +32,7 @@ use Rattle.bm_job.proofs.WorkUnitLemmas.{body_kept}
 use Rattle.bm_batch.specs.declared.bay_slot.BaySlot.{BaySlot}
 use Rattle.bm_batch.specs.declared.bay_state.BayState.{BayState}
 use Rattle.bm_batch.specs.declared.bay_state.BayState.TheVariants.{Going, Finished, Ended}
-use Rattle.bm_batch.specs.Bays.{IsOfShape, BayFollows, JobDone, BayWent, BayTurns}
+use Rattle.bm_batch.specs.Bays.{IsBayOfShape, BayFollows, JobDone, BayWent, BayTurns}
 use Rattle.bm_batch.proofs.TurnLemmas.{going_not_finished, going_not_ended, finished_not_ended, job_done}
 
 -- ---- choices
@@ -230,7 +230,7 @@ attached_after ts tc a b u v x = elim (going_or_not a.state) [
 ]
 
 -- its input is as before
-pub input_after : (ts tc : Bool) (s : Shape) (a b : BaySlot) (u v : RackView) → IsOfShape s a → BayTurns ts tc a b u v
+pub input_after : (ts tc : Bool) (s : Shape) (a b : BaySlot) (u v : RackView) → IsBayOfShape s a → BayTurns ts tc a b u v
     → SameInput (dims_of s) u v
 input_after ts tc s a b u v shape x = elim (going_or_not a.state) [
   | inl on ↦

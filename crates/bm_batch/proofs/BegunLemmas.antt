@@ -11,7 +11,7 @@ use Rattle.bm_base.specs.Shape.{dims_of}
 use Rattle.bm_rack.specs.RackView.{RackView}
 use Rattle.bm_batch.specs.declared.batch_job.BatchJob.{BatchJob}
 use Rattle.bm_batch.specs.declared.bay_slot.BaySlot.{BaySlot}
-use Rattle.bm_batch.specs.Bays.{IsOfShape, BayBegun}
+use Rattle.bm_batch.specs.Bays.{IsBayOfShape, BayBegun}
 use Rattle.bm_batch.specs.Batches.{BatchValue, view_at, AreAllAttached, AreAttached, AreSound, BatchFollows, BatchBegun}
 use Rattle.bm_batch.proofs.BatchLemmas.{element_of, view_here, own_before, own_after}
 
@@ -24,7 +24,7 @@ pub record BegunTo {A : Type 0} (view : A → RackView) (ts tc : Bool) (s : Shap
     (old new : List A) : Type 0 where
   pub count_is : length slots ≡ count
   pub many : length new ≡ length old
-  pub of_shape : All (IsOfShape s) slots
+  pub of_shape : All (IsBayOfShape s) slots
   pub rest : (k : ℕ) (d : A) → count ≤ k → slice_index_or new k d ≡ slice_index_or old k d
   pub bays : (k : ℕ) (j : BatchJob) (d : BaySlot) → k < count
       → IsBegun ts tc s (slice_index_or jobs k j) (slice_index_or slots k d) (view_at (map view old) k) (view_at (map view new) k)
@@ -35,7 +35,7 @@ pub begun_none : {A : Type 0} (view : A → RackView) (ts tc : Bool) (s : Shape)
 begun_none view ts tc s jobs bays = record {
   count_is = refl;
   many = refl;
-  of_shape = All-nil (IsOfShape s);
+  of_shape = All-nil (IsBayOfShape s);
   rest = λ k d _. refl;
   bays = λ k j d below. absurd (omega (arith, below));
 }
@@ -56,7 +56,7 @@ pub begun_next : {A : Type 0} (view : A → RackView) (ts tc : Bool) (s : Shape)
 begun_next {A} view ts tc s jobs count slots old new job slot rack after x below has job_is begun = record {
   count_is = (let one = length_push slots slot in let is = x.count_is in omega (arith, one, is));
   many = set_many ∙ x.many;
-  of_shape = All-push (IsOfShape s) slots slot x.of_shape (λ m is. (begun.fresh m is).shape);
+  of_shape = All-push (IsBayOfShape s) slots slot x.of_shape (λ m is. (begun.fresh m is).shape);
   rest = λ k d later. get_or-set_other new count k after d (omega (arith, later)) ∙ x.rest k d (omega (arith, later));
   bays = λ k j d early. elim (cases_eq k count) [
     | inl same ↦ subst (λ (i : ℕ). Begun i j d) (sym same) (own j d)

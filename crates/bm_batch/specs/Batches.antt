@@ -16,7 +16,7 @@ use Rattle.bm_batch.specs.declared.batch_job.BatchJob.{BatchJob}
 use Rattle.bm_batch.specs.declared.bay_slot.BaySlot.{BaySlot}
 use Rattle.bm_batch.specs.declared.bay_state.BayState.{BayState}
 use Rattle.bm_batch.specs.declared.bay_state.BayState.TheVariants.{Going, Finished, Ended}
-use Rattle.bm_batch.specs.Bays.{IsOfShape, BayFollows, BayDone, BayBegun, BayTurns}
+use Rattle.bm_batch.specs.Bays.{IsBayOfShape, BayFollows, BayDone, BayBegun, BayTurns}
 
 -- a shape, and what is known of each bay in order
 pub record BatchValue : Type 0 where
@@ -27,7 +27,7 @@ pub record BatchValue : Type 0 where
 pub record BatchFits (s : Shape) (slots : List BaySlot) : Type 0 where
   pub some : 1 ≤ length slots
   pub few : length slots ≤ 64
-  pub of_shape : All (IsOfShape s) slots
+  pub of_shape : All (IsBayOfShape s) slots
 
 -- the view of bay k
 abbrev pub view_at : List RackView → ℕ → RackView

@@ -43,8 +43,8 @@ abbrev pub moved_of : BaySlot → ℕ
 moved_of slot = moved_by slot.machine
 
 -- its machine is of this shape
-abbrev pub IsOfShape : Shape → BaySlot → Type 0
-IsOfShape s slot = (m : Machine) → slot.machine ≡ Some m → m.shape ≡ s
+abbrev pub IsBayOfShape : Shape → BaySlot → Type 0
+IsBayOfShape s slot = (m : Machine) → slot.machine ≡ Some m → m.shape ≡ s
 
 -- the machine of a bay that is not Ended follows the bay's rack
 abbrev pub BayFollows : BaySlot → RackView → Type 0

@@ -5,7 +5,7 @@ ghost use Rattle.bm_base.specs.declared.shape.Shape.{Shape};
 ghost use Rattle.bm_base.specs.Shape.{dims_of};
 ghost use Rattle.bm_bufs.specs.Bufs.{FitsShape};
 ghost use Rattle.bm_job.specs.declared.machine.Machine.{Machine};
-ghost use Rattle.bm_batch.specs.Bays.{IsOfShape, BayBegun, BayWent, BayTurns, BayStep};
+ghost use Rattle.bm_batch.specs.Bays.{IsBayOfShape, BayBegun, BayWent, BayTurns, BayStep};
 ghost use Rattle.bm_batch.specs.Bays.{IsSlotOf, answered};
 ghost use Rattle.bm_batch.specs.Batches.{IsBatchJob};
 
@@ -61,8 +61,8 @@ pub fn turn_bay<Y: Rack>(slot: &BaySlot, rack: &mut Y, bufs: &mut Bufs) -> BaySl
     ensures step { slot.now.state ≡ BayState.Going → (m : Machine) → slot.now.machine ≡ Some m
         → BayStep Y.tells_stands Y.tells_contents m result (Y.view rack.old) (Y.view rack.new) }
     ensures idle { slot.now.state ≢ BayState.Going → rack.new ≡ rack.old }
-    ensures shape { (s : Shape) → IsOfShape s slot.now → IsOfShape s result }
-    ensures fits { (s : Shape) → IsOfShape s slot.now → FitsShape s bufs.old → FitsShape s bufs.new }
+    ensures shape { (s : Shape) → IsBayOfShape s slot.now → IsBayOfShape s result }
+    ensures fits { (s : Shape) → IsBayOfShape s slot.now → FitsShape s bufs.old → FitsShape s bufs.new }
 {
     match slot.machine {
         Some(machine) => match slot.state {

@@ -18,12 +18,12 @@ use Rattle.bm_batch_call.specs.Bays.{BayLeaves, BayAttached, AttachCause, Attach
 use Rattle.bm_batch_call.specs.BatchCall.{PrepareCall}
 use Rattle.bm_batch_call.specs.Causes.{BatchCause}
 use Rattle.bm_batch_call.specs.Moment.{BatchDevices, Work, no_view, whole_size, part_of}
-use Rattle.bm_batch_call.specs.Opening.{AttachCall, AttachRefusal}
+use Rattle.bm_batch_call.specs.Opening.{AttachCall, AttachEnds}
 use Rattle.bm_batch_call.proofs.BayLemmas.{leaves_none, leaves_attached}
 use Rattle.bm_batch_call.proofs.ListLemmas.{ends_each}
 use Rattle.bm_batch_call.proofs.StoppedLemmas.{stopped}
 
-attach_cause : (t : Tells) (w : Work) (old new : BatchDevices) (e : Status) (r : AttachRefusal t w.shape old.bays e new.bays)
+attach_cause : (t : Tells) (w : Work) (old new : BatchDevices) (e : Status) (r : AttachEnds t w.shape old.bays e new.bays)
     → length old.bays ≡ w.count → AttachCause t w.shape (view_at old.bays r.at) e (view_at new.bays r.at) → BatchCause t Run w old e new
 attach_cause t w old new Done r many x = absurd x
 attach_cause t w old new OutOfMemory r many x = tt

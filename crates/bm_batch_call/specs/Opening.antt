@@ -26,10 +26,10 @@ pub record OpensCall (t : Tells) (s : Shape) (old : List RackView) (result : Res
   pub refused : IfErr result (λ e. OpensRefusal t s old e new)
 
 -- disks were attached, or not
-pub record AttachRefusal (t : Tells) (s : Shape) (old : List RackView) (e : Status) (new : List RackView) : Type 0 where
+pub record AttachEnds (t : Tells) (s : Shape) (old : List RackView) (e : Status) (new : List RackView) : Type 0 where
   pub at : ℕ
   pub bays : EndsAt no_view (λ k was is. BayAttached t s was is) (λ k was is. AttachFails t s was e is) at old new
 
 pub record AttachCall (t : Tells) (s : Shape) (old : List RackView) (result : Result (Unit {0}) Status) (new : List RackView) : Type 0 where
   pub attached : IsOk result → UpTo no_view (λ k was is. BayAttached t s was is) (length old) old new
-  pub refused : IfErr result (λ e. AttachRefusal t s old e new)
+  pub refused : IfErr result (λ e. AttachEnds t s old e new)

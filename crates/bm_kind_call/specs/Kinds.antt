@@ -14,7 +14,7 @@ use Rattle.bm_rack.specs.Image.{InEveryImage}
 use Rattle.bm_control.specs.Consistent.{input_of}
 use Rattle.bm_control.specs.Pages.{HasOpenLoad, HasClosedJob, HasLoadBody}
 use Rattle.bm_control.specs.Sound.{IsSound}
-use Rattle.bm_kinds.specs.Kinds.{Kind, WalshBits, Sums, Differences, Xors, pairing, transformed}
+use Rattle.bm_kinds.specs.Kinds.{Kind, WalshBits, Sums, Differences, Xors, pairing, kind_transformed}
 use Rattle.bm_kinds.specs.OnBits.{word, kernel_over}
 use Rattle.bm_kindjob.specs.declared.kind_file.KindFile.{KindFile}
 use Rattle.bm_kindjob.specs.declared.kind_names.KindName.{KindName}
@@ -47,7 +47,7 @@ kinded file bytes = bytes_of (2 ^ file.shape.n) (transform_of file (record_in fi
 abbrev pub AreSums : KindFile → List ℕ → Type 0
 AreSums file bytes = (k : ℕ) → k < 2 ^ file.shape.n
     → word (transform_of file (record_in file.shape bytes) k)
-    ≡ transformed (named_kind file.kind) file.shape.n file.set (λ x. word (record_in file.shape bytes x)) k
+    ≡ kind_transformed (named_kind file.kind) file.shape.n file.set (λ x. word (record_in file.shape bytes x)) k
 
 -- ---- a run
 

@@ -11,7 +11,7 @@ ghost use Rattle.bm_rack.specs.Image.{InEveryImage};
 ghost use Rattle.bm_control.specs.Pages.{HasClosedJob};
 ghost use Rattle.bm_control.specs.Sound.{IsSound};
 ghost use Rattle.bm_kinds.specs.OnBits.{word, kernel_over};
-ghost use Rattle.bm_kinds.specs.Kinds.{Kind, pairing, transformed};
+ghost use Rattle.bm_kinds.specs.Kinds.{Kind, pairing, kind_transformed};
 ghost use Rattle.bm_kindjob.specs.KindRun.{IsWorkBlock};
 
 use crate::plans::KindPlan;
@@ -56,7 +56,7 @@ pub fn run_kind<K: Kernel, R: Rack>(
         → IsTrue R.tells_contents → OnOk result ((k : ℕ) → k < 2 ^ shape.now.n
         → word (record_at (R.view rack.new).contents shape.now
         (area_after (length plan.now.forms)) k)
-        ≡ transformed kind shape.now.n set
+        ≡ kind_transformed kind shape.now.n set
         (λ x. word (record_at (R.view rack.old).contents shape.now Input x)) k) }
     ensures only { ChangesOnly (IsWorkBlock shape.now) (R.view rack.old) (R.view rack.new) }
     ensures sound { IsTrue R.tells_stands → IsTrue R.tells_contents

@@ -11,7 +11,8 @@ use Rattle.bm_base.specs.Butterfly.{negative}
 use Rattle.bm_base.proofs.CaseLemmas.{if_same, if_other}
 use Rattle.bm_gf2.proofs.VectorLemmas.{bit_of_low}
 use Rattle.bm_butter.specs.OnBits.{word, kernel_over}
-use Rattle.bm_kinds.specs.Kinds.{Kind, WalshBits, Sums, Differences, Xors, pairing, signed, outside, inside, term, total, transformed}
+use Rattle.bm_kinds.specs.Kinds.{Kind, WalshBits, Sums, Differences, Xors, pairing, with_sign, outside, inside, term, total}
+use Rattle.bm_kinds.specs.Kinds.{kind_transformed}
 use Rattle.bm_butter.specs.Laws.{keeps_words}
 use Rattle.bm_butter.proofs.OnBitLemmas.{flip, flip_below, bit_by, same_pair, word_below, word_on-clear, word_on-set}
 use Rattle.bm_kinds.proofs.OverLemmas.{kernel_over-left, kernel_over-taken}
@@ -24,7 +25,7 @@ use Rattle.bm_kinds.proofs.TermLemmas.{differences_set}
 
 -- the first number of a pair
 pub kind_clear : (kind : Kind) (i n set more k : ℕ) (v : ℕ → ℕ) → Adds i set more → bit_at k i ≡ 0
-    → (pairing kind (transformed kind n set v k) (transformed kind n set v (flip k i))).0 ≡ transformed kind n more v k
+    → (pairing kind (kind_transformed kind n set v k) (kind_transformed kind n set v (flip k i))).0 ≡ kind_transformed kind n more v k
 unfolding pairing
 kind_clear WalshBits i n set more k v adds out =
     let e = total_plus WalshBits (2 ^ n) (λ x. term WalshBits set k x (v x)) (λ x. term WalshBits set (flip k i) x (v x))
@@ -41,7 +42,7 @@ kind_clear Xors i n set more k v adds out = ap (λ (c : ℕ). c % 18446744073709
 
 -- the second
 pub kind_set : (kind : Kind) (i n set more k : ℕ) (v : ℕ → ℕ) → Adds i set more → bit_at k i ≡ 1
-    → (pairing kind (transformed kind n set v (flip k i)) (transformed kind n set v k)).1 ≡ transformed kind n more v k
+    → (pairing kind (kind_transformed kind n set v (flip k i)) (kind_transformed kind n set v k)).1 ≡ kind_transformed kind n more v k
 unfolding pairing
 kind_set WalshBits i n set more k v adds one =
     let e = total_plus WalshBits (2 ^ n) (λ x. term WalshBits more k x (v x)) (λ x. term WalshBits set k x (v x))
@@ -67,7 +68,7 @@ pub or_none : (x : ℕ) → bit_or x 0 ≡ x
 or_none x = same_from_bits (bit_or x 0) x (λ j. let o = bit_at_or x 0 j in let z = bit_at-zero j in omega arith)
 
 -- no ones, no sign
-pub signed_none : (c v : ℕ) → c ≡ 0 → signed c v ≡ v
+pub signed_none : (c v : ℕ) → c ≡ 0 → with_sign c v ≡ v
 signed_none c v none = if_same (count_ones c % 2) 0 v (negative v)
     (ap (λ (d : ℕ). count_ones d % 2) none ∙ (let h = ones_le_self 0 in let z : count_ones 0 % 2 ≡ 0 = omega arith in z))
 
@@ -94,7 +95,7 @@ term_others Sums k x v differ = outside_others k x _ differ
 term_others Differences k x v differ = outside_others k x _ differ
 term_others Xors k x v differ = outside_others k x _ differ
 
-pub transformed_none : (kind : Kind) (n k : ℕ) (v : ℕ → ℕ) → k < 2 ^ n → transformed kind n 0 v k ≡ v k % 2 ^ 64
+pub transformed_none : (kind : Kind) (n k : ℕ) (v : ℕ → ℕ) → k < 2 ^ n → kind_transformed kind n 0 v k ≡ v k % 2 ^ 64
 transformed_none kind n k v below = ap (λ (c : ℕ). c % 18446744073709551616)
     (total_one kind (2 ^ n) k (λ x. term kind 0 k x (v x)) below (λ x differ. term_others kind k x (v x) differ) ∙ term_own kind k (v k))
 
@@ -118,10 +119,10 @@ cut_adds set m one = record {
 
 -- the bits of the set below m
 pub kind_below : (kind : Kind) (n set m : ℕ) (xs : ℕ → List ℕ) → m ≤ n → (k : ℕ) → k < 2 ^ n
-    → word (kernel_over (pairing kind) m set xs k) ≡ transformed kind n (set % 2 ^ m) (λ x. word (xs x)) k
+    → word (kernel_over (pairing kind) m set xs k) ≡ kind_transformed kind n (set % 2 ^ m) (λ x. word (xs x)) k
 unfolding kernel_over
 kind_below kind n set zero xs fewer k below =
-    sym (ap (λ (c : ℕ). transformed kind n c (λ x. word (xs x)) k) (mod-one set) ∙ transformed_none kind n k (λ x. word (xs x)) below
+    sym (ap (λ (c : ℕ). kind_transformed kind n c (λ x. word (xs x)) k) (mod-one set) ∙ transformed_none kind n k (λ x. word (xs x)) below
     ∙ mod-eq_of_lt (word_below (xs k)))
 kind_below kind n set (suc m) xs fewer k below =
     let f = pairing kind in
@@ -130,7 +131,7 @@ kind_below kind n set (suc m) xs fewer k below =
     let ys = kernel_over f m set xs in
     bit_by set m
     (λ (p : bit_at set m ≡ 0). ap (λ (zs : ℕ → List ℕ). word (zs k)) (kernel_over-left f m set xs p) ∙ before k below
-    ∙ ap (λ (c : ℕ). transformed kind n c v k) (sym (cut_left set m p)))
+    ∙ ap (λ (c : ℕ). kind_transformed kind n c v k) (sym (cut_left set m p)))
     (λ (p : bit_at set m ≡ 1). ap (λ (zs : ℕ → List ℕ). word (zs k)) (kernel_over-taken f m set xs p)
     ∙ (let other = before (flip k m) (flip_below n k m below (omega arith)) in
     bit_by k m
@@ -141,6 +142,6 @@ kind_below kind n set (suc m) xs fewer k below =
 
 -- what the pairing of a kind makes of a set's bits is the kind's transform over the set
 pub kernel_over-kind : (kind : Kind) (n set : ℕ) (xs : ℕ → List ℕ) → set < 2 ^ n → (k : ℕ) → k < 2 ^ n
-    → word (kernel_over (pairing kind) n set xs k) ≡ transformed kind n set (λ x. word (xs x)) k
+    → word (kernel_over (pairing kind) n set xs k) ≡ kind_transformed kind n set (λ x. word (xs x)) k
 kernel_over-kind kind n set xs short k below = kind_below kind n set n xs (omega arith) k below
-    ∙ ap (λ (c : ℕ). transformed kind n c (λ x. word (xs x)) k) (mod-eq_of_lt short)
+    ∙ ap (λ (c : ℕ). kind_transformed kind n c (λ x. word (xs x)) k) (mod-eq_of_lt short)

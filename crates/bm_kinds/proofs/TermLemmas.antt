@@ -7,7 +7,7 @@ use Rattle.std.proofs.lemmas.Bool.{cases_eq}
 use Rattle.std.proofs.lemmas.Nat.{xor_comm}
 use Rattle.std.proofs.lemmas.Nat.Bits.{bit_at-lt}
 use Rattle.bm_gf2.proofs.VectorLemmas.{xor_same}
-use Rattle.bm_kinds.specs.Kinds.{WalshBits, Sums, Differences, Xors, signed, outside, inside, term}
+use Rattle.bm_kinds.specs.Kinds.{WalshBits, Sums, Differences, Xors, with_sign, outside, inside, term}
 use Rattle.bm_butter.proofs.OnBitLemmas.{flip}
 use Rattle.bm_kinds.proofs.TotalLemmas.{signed_cancels}
 use Rattle.bm_kinds.proofs.AgreeLemmas.{Adds, differ_outside, own_bit, outside_same, outside_other, outside_same-cancels}
@@ -21,16 +21,16 @@ pub walsh_clear : (i set more k x v : ℕ) → Adds i set more → bit_at k i �
     → term WalshBits set k x v + term WalshBits set (flip k i) x v ≡ term WalshBits more k x v
 unfolding term
 walsh_clear i set more k x v adds out =
-    let sign : signed (bit_and (bit_and k x) more) v ≡ signed (bit_and (bit_and k x) set) v =
-    ap (λ (c : ℕ). signed c v) (sign_same i set more k x adds (omega arith)) in
+    let sign : with_sign (bit_and (bit_and k x) more) v ≡ with_sign (bit_and (bit_and k x) set) v =
+    ap (λ (c : ℕ). with_sign c v) (sign_same i set more k x adds (omega arith)) in
     ⊎_elim
     (λ (p : bit_at x i ≡ bit_at k i).
     let same = outside_same i set more k x _ _ adds p sign in
-    let none = differ_outside i set more (flip k i) x (signed (bit_and (bit_and (flip k i) x) set) v) adds (own_bit i k x p) in
+    let none = differ_outside i set more (flip k i) x (with_sign (bit_and (bit_and (flip k i) x) set) v) adds (own_bit i k x p) in
     omega arith)
     (λ (p : bit_at x i ≢ bit_at k i).
-    let same = outside_other i set more k x _ _ adds p (sign ∙ ap (λ (c : ℕ). signed c v) (sym (sign_other i set more k x adds))) in
-    let none = differ_outside i set more k x (signed (bit_and (bit_and k x) set) v) adds p in
+    let same = outside_other i set more k x _ _ adds p (sign ∙ ap (λ (c : ℕ). with_sign c v) (sym (sign_other i set more k x adds))) in
+    let none = differ_outside i set more k x (with_sign (bit_and (bit_and k x) set) v) adds p in
     omega arith)
     (cases_eq (bit_at x i) (bit_at k i))
 
@@ -44,14 +44,14 @@ walsh_set i set more k x v adds one =
     (λ (p : bit_at x i ≡ bit_at k i).
     let sign = signed_cancels _ _ v (sign_more i set more k x adds one (p ∙ one)) in
     let same = outside_same-cancels i set more k x _ _ adds p sign in
-    let none = differ_outside i set more (flip k i) x (signed (bit_and (bit_and (flip k i) x) set) v) adds (own_bit i k x p) in
+    let none = differ_outside i set more (flip k i) x (with_sign (bit_and (bit_and (flip k i) x) set) v) adds (own_bit i k x p) in
     omega arith)
     (λ (p : bit_at x i ≢ bit_at k i).
     let b : bit_at x i < 2 = bit_at-lt x i in
-    let sign : signed (bit_and (bit_and k x) more) v ≡ signed (bit_and (bit_and (flip k i) x) set) v =
-    ap (λ (c : ℕ). signed c v) (sign_same i set more k x adds (omega arith) ∙ sym (sign_other i set more k x adds)) in
+    let sign : with_sign (bit_and (bit_and k x) more) v ≡ with_sign (bit_and (bit_and (flip k i) x) set) v =
+    ap (λ (c : ℕ). with_sign c v) (sign_same i set more k x adds (omega arith) ∙ sym (sign_other i set more k x adds)) in
     let same = outside_other i set more k x _ _ adds p sign in
-    let none = differ_outside i set more k x (signed (bit_and (bit_and k x) set) v) adds p in
+    let none = differ_outside i set more k x (with_sign (bit_and (bit_and k x) set) v) adds p in
     omega arith)
     (cases_eq (bit_at x i) (bit_at k i))
 
@@ -112,7 +112,7 @@ xors_clear i set more k x v adds out = plain_clear i set more k x v adds out
 pub differences_clear : (i set more k x v : ℕ) → Adds i set more → bit_at k i ≡ 0
     → term Differences set k x v ≡ term Differences more k x v
 unfolding term
-differences_clear i set more k x v adds out = plain_clear i set more k x (signed (bit_xor k x) v) adds out
+differences_clear i set more k x v adds out = plain_clear i set more k x (with_sign (bit_xor k x) v) adds out
 
 pub differences_set : (i set more k x v : ℕ) → Adds i set more → bit_at k i ≡ 1
     → (term Differences more k x v + term Differences set (flip k i) x v) % 18446744073709551616
@@ -122,12 +122,13 @@ differences_set i set more k x v adds one =
     let b : bit_at x i < 2 = bit_at-lt x i in
     ⊎_elim
     (λ (p : bit_at x i ≡ bit_at k i).
-    let same = outside_same i set more k x _ _ adds p (inside_same i set more k x _ (signed (bit_xor k x) v) adds (omega arith) refl) in
-    let none = differ_outside i set more (flip k i) x (inside set (flip k i) x (signed (bit_xor (flip k i) x) v)) adds (own_bit i k x p) in
+    let same = outside_same i set more k x _ _ adds p (inside_same i set more k x _ (with_sign (bit_xor k x) v) adds (omega arith) refl) in
+    let none = differ_outside i set more (flip k i) x (inside set (flip k i) x (with_sign (bit_xor (flip k i) x) v)) adds
+    (own_bit i k x p) in
     omega arith)
     (λ (p : bit_at x i ≢ bit_at k i).
     let sign = signed_cancels _ _ v (difference_more i k x one (omega arith)) in
     let same = outside_other-cancels i set more k x _ _ adds p (inside_other-cancels i set more k x _ _ adds (omega arith) sign) in
-    let none = differ_outside i set more k x (inside set k x (signed (bit_xor k x) v)) adds p in
+    let none = differ_outside i set more k x (inside set k x (with_sign (bit_xor k x) v)) adds p in
     omega arith)
     (cases_eq (bit_at x i) (bit_at k i))

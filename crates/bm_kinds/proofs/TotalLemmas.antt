@@ -7,7 +7,7 @@ use Rattle.std.proofs.lemmas.Nat.{xor_comm}
 use Rattle.bm_base.specs.Butterfly.{negative}
 use Rattle.bm_base.proofs.CaseLemmas.{if_same, if_other}
 use Rattle.bm_gf2.proofs.VectorLemmas.{xor_same, xor_swap}
-use Rattle.bm_kinds.specs.Kinds.{Kind, WalshBits, Sums, Differences, Xors, signed, inside, added, total}
+use Rattle.bm_kinds.specs.Kinds.{Kind, WalshBits, Sums, Differences, Xors, with_sign, inside, added, total}
 
 -- ---- totals
 
@@ -106,7 +106,7 @@ choice_cancels a b c d v w there back none =
     (cases_eq a b)
 
 -- one more in what tells the sign
-pub signed_cancels : (c d v : ℕ) → count_ones c ≡ count_ones d + 1 → (signed c v + signed d v) % 18446744073709551616 ≡ 0
+pub signed_cancels : (c d v : ℕ) → count_ones c ≡ count_ones d + 1 → (with_sign c v + with_sign d v) % 18446744073709551616 ≡ 0
 signed_cancels c d v more =
     ⊎_elim
     (λ (p : count_ones d % 2 ≡ 0).

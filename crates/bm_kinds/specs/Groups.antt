@@ -11,8 +11,8 @@ abbrev pub AreInside : ℕ → (ℕ → ℕ) → ℕ → Type 0
 AreInside count place bytes = (t : ℕ) → t < count → (place t + 1) * 8 ≤ bytes
 
 -- no two of them have one place
-abbrev pub AreApart : ℕ → (ℕ → ℕ) → Type 0
-AreApart count place = (s t : ℕ) → s < count → t < count → s ≢ t → place s ≢ place t
+abbrev pub HaveOwnPlaces : ℕ → (ℕ → ℕ) → Type 0
+HaveOwnPlaces count place = (s t : ℕ) → s < count → t < count → s ≢ t → place s ≢ place t
 
 -- the number whose bits of a list are the digits of t, and which has no others
 abbrev pub member : (ℕ → ℕ) → ℕ → ℕ → ℕ

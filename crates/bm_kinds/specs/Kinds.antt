@@ -5,8 +5,8 @@ pub use Rattle.bm_butter.specs.Kernels.{Kind, WalshBits, Sums, Differences, Xors
 unfoldable pub use Rattle.bm_butter.specs.Kernels.{pairing}
 
 -- v, taken negative where c has an odd number of ones
-abbrev pub signed : ℕ → ℕ → ℕ
-signed c v = if count_ones c % 2 == 0 then v else negative v
+abbrev pub with_sign : ℕ → ℕ → ℕ
+with_sign c v = if count_ones c % 2 == 0 then v else negative v
 
 -- v where x agrees with k outside the set, else nothing
 abbrev pub outside : ℕ → ℕ → ℕ → ℕ → ℕ
@@ -18,9 +18,9 @@ inside set k x v = if bit_or (bit_and x set) k == k then v else 0
 
 -- what number v at x adds to number k
 unfoldable pub term : Kind → ℕ → ℕ → ℕ → ℕ → ℕ
-term WalshBits set k x v = outside set k x (signed (bit_and (bit_and k x) set) v)
+term WalshBits set k x v = outside set k x (with_sign (bit_and (bit_and k x) set) v)
 term Sums set k x v = outside set k x (inside set k x v)
-term Differences set k x v = outside set k x (inside set k x (signed (bit_xor k x) v))
+term Differences set k x v = outside set k x (inside set k x (with_sign (bit_xor k x) v))
 term Xors set k x v = outside set k x (inside set k x v)
 
 -- how terms are added
@@ -36,5 +36,5 @@ total kind zero terms = 0
 total kind (suc x) terms = added kind (total kind x terms) (terms x)
 
 -- number k of the transform of 2 ^ n numbers
-abbrev pub transformed : Kind → ℕ → ℕ → (ℕ → ℕ) → ℕ → ℕ
-transformed kind n set numbers k = total kind (2 ^ n) (λ x. term kind set k x (numbers x)) % 2 ^ 64
+abbrev pub kind_transformed : Kind → ℕ → ℕ → (ℕ → ℕ) → ℕ → ℕ
+kind_transformed kind n set numbers k = total kind (2 ^ n) (λ x. term kind set k x (numbers x)) % 2 ^ 64

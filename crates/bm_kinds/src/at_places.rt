@@ -8,7 +8,7 @@ ghost use Rattle.bm_gf2.specs.Matrix.{IsNonsingular};
 ghost use Rattle.bm_butter.specs.Records.{record_at_place};
 ghost use Rattle.bm_butter.specs.OnBits.{word, kernel_over};
 ghost use Rattle.bm_kinds.specs.Parts.{IsPart, IsDone};
-ghost use Rattle.bm_kinds.specs.Kinds.{Kind, WalshBits, pairing, transformed};
+ghost use Rattle.bm_kinds.specs.Kinds.{Kind, WalshBits, pairing, kind_transformed};
 
 use crate::few_bits::radix;
 use crate::low_run::{are_lone, on_low_run};
@@ -103,7 +103,7 @@ pub fn kernel_at<K: Kernel>(kernel: &K, buf: &mut [u8], a: &Matrix, plus: u64, s
         (kernel_over (K.meaning kernel.now) a.now.n set (record_at_place a.now plus buf.old)) }
     ensures kinds { (kind : Kind) → K.meaning kernel.now ≡ pairing kind
         → (k : ℕ) → k < 2 ^ a.now.n → word (record_at_place a.now plus buf.new k)
-        ≡ transformed kind a.now.n set (λ x. word (record_at_place a.now plus buf.old x)) k }
+        ≡ kind_transformed kind a.now.n set (λ x. word (record_at_place a.now plus buf.old x)) k }
     ensures butterflies { (low : ℕ) → K.meaning kernel.now ≡ pairing WalshBits → set ≡ 2 ^ low - 1
         → SameRecords (2 ^ a.now.n) (record_at_place a.now plus buf.new)
         (butterflies low (record_at_place a.now plus buf.old)) }

@@ -5,7 +5,7 @@ ghost use Rattle.std.specs.Prelude.{length, slice_index, bit_xor};
 ghost use Rattle.bm_base.specs.Butterfly.{record_of};
 ghost use Rattle.bm_butter.specs.Records.{record_in_order};
 ghost use Rattle.bm_butter.specs.OnBits.{word, kernel_on, kernel_digits};
-ghost use Rattle.bm_kinds.specs.Groups.{corner, AreInside, AreApart};
+ghost use Rattle.bm_kinds.specs.Groups.{corner, AreInside, HaveOwnPlaces};
 
 use bm_base::number_at;
 use bm_butter::{Kernel, set_number};
@@ -84,7 +84,7 @@ fn on_digits<K: Kernel, const T: usize>(kernel: &K, from: &Group) -> Group
 fn scatter<const T: usize>(buf: &mut [u8], here: u64, offsets: &Group, numbers: &Group)
     requires few { T ≤ 3 }
     requires inside { AreInside (2 ^ T) (corner here (slice_index offsets.now)) (length buf.old) }
-    requires apart { AreApart (2 ^ T) (corner here (slice_index offsets.now)) }
+    requires apart { HaveOwnPlaces (2 ^ T) (corner here (slice_index offsets.now)) }
     ensures written { (t : ℕ) → t < 2 ^ T
         → record_in_order buf.new (corner here (slice_index offsets.now) t)
         ≡ record_of (slice_index numbers.now t) }
@@ -109,7 +109,7 @@ pub fn transform_group<K: Kernel, const T: usize>(
     requires some { 1 ≤ T }
     requires few { T ≤ 3 }
     requires inside { AreInside (2 ^ T) (corner here (slice_index offsets.now)) (length buf.old) }
-    requires apart { AreApart (2 ^ T) (corner here (slice_index offsets.now)) }
+    requires apart { HaveOwnPlaces (2 ^ T) (corner here (slice_index offsets.now)) }
     ensures done { (t : ℕ) → t < 2 ^ T
         → record_in_order buf.new (corner here (slice_index offsets.now) t)
         ≡ kernel_digits (K.meaning kernel.now) T

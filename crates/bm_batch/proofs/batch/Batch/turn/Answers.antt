@@ -4,7 +4,7 @@ use Rattle.std.proofs.lemmas.List.Elements.{All-set}
 use Rattle.bm_bufs.specs.Bufs.{FitsShape}
 use Rattle.bm_base.specs.declared.shape.Shape.{Shape}
 use Rattle.bm_batch.specs.declared.bay_slot.BaySlot.{BaySlot}
-use Rattle.bm_batch.specs.Bays.{IsOfShape, BayStep}
+use Rattle.bm_batch.specs.Bays.{IsBayOfShape, BayStep}
 use Rattle.bm_batch.specs.Batches.{BatchValue, view_at, AreAttached, BatchTurns}
 use Rattle.bm_batch.proofs.BatchLemmas.{batch_turned, batch_step, own_shape, own_attached}
 use Rattle.bm_batch.proofs.BatchLemmas.{batch_follows, batch_attached, batch_sound, batch_done}
@@ -43,7 +43,7 @@ invariant_of-self g c =
     record {
       some = (let some = c.self.invariant.some in let same = length-set b.slots.items at next in omega (arith, some, same));
       few = (let few = c.self.invariant.few in let same = length-set b.slots.items at next in omega (arith, few, same));
-      of_shape = All-set (IsOfShape b.shape) b.slots.items at next
+      of_shape = All-set (IsBayOfShape b.shape) b.slots.items at next
           (c.turn_bay-slot.ensures.shape b.shape
           (own_shape b.shape b.slots.items at c.index.result.now c.self.invariant.of_shape below c.index.ensures))
           c.self.invariant.of_shape;
