@@ -42,7 +42,7 @@ pub record RisesWithin (least most : ℕ) (old new : ℕ) : Type 0 where
   pub low : RisesLeast least old new
   pub high : new ≤ raised old most
 
--- What becomes of the counts of row calls, page calls and syncs. All clauses on counts of calls say it by this record.
+-- what becomes of the counts of row calls, page calls and syncs
 pub record CallCounts (R P S : ℕ → ℕ → Type 0) (old new : RackView) : Type 0 where
   pub moves : R old.moves new.moves
   pub pages : P old.pages new.pages
